@@ -1,0 +1,30 @@
+-- The answer numbers, in the order of checking (Answer numbers, in order of checking).
+use Prim.Native.Nat.{ℕ}
+use mathlib.Core.Bool.{Bool}
+use lib.Dec.{eqb}
+use Rattle.octets.specs.Choice.{pick}
+pub use Rattle.answers.specs.declared.Answer.{Answer}
+pub use Rattle.answers.specs.declared.Answer.the-variants.{NotSound, WrongRing, Malformed, BadField, TooEarly, Ignored, NotLive, WrongMoment, WrongShares, Full, Blocked, NotHeld, NoRoom, Done}
+
+abbrev pub answerNumber : Answer → ℕ
+answerNumber NotSound = 10
+answerNumber WrongRing = 11
+answerNumber Malformed = 2
+answerNumber BadField = 3
+answerNumber TooEarly = 4
+answerNumber Ignored = 1
+answerNumber NotLive = 5
+answerNumber WrongMoment = 7
+answerNumber WrongShares = 6
+answerNumber Full = 8
+answerNumber Blocked = 9
+answerNumber NotHeld = 12
+answerNumber NoRoom = 13
+answerNumber Done = 0
+
+unfoldable pub isDone : Answer → Bool
+isDone answer = eqb (answerNumber answer) 0
+
+-- Only 0 changes anything: what is there after an answer, of what a done entry leaves and of what was there
+unfoldable pub ifDone : {A : Type 0} → Answer → A → A → A
+ifDone answer after before = pick (isDone answer) after before
