@@ -1,0 +1,79 @@
+-- The outbox: a ring seen from its read place (Table and outbox).
+use Prim.Native.Nat.{ℕ, _+_, _-_}
+use mathlib.Core.Bool.{Bool, not}
+use mathlib.Core.List.{List, [], _∷_, _++_}
+use lib.ListN.{length, take, drop}
+use lib.Dec.{leb, ltb}
+use Rattle.octets.specs.Choice.{pick, every, firstOf_, _⇒_⨾_}
+use Rattle.outbox.specs.Limits.{shortestRing, longestRing}
+use Rattle.answers.specs.declared.Answer.{Answer}
+use Rattle.answers.specs.declared.Answer.the-variants.{Done, WrongRing, NotHeld, Blocked}
+pub use Rattle.outbox.specs.declared.marks.Marks.{Marks}
+
+-- a ring of n bytes and its marks are right
+unfoldable pub ringGood : ℕ → Marks → Bool
+ringGood n m =
+    every
+    (leb shortestRing n
+    ∷ leb n longestRing
+    ∷ ltb (m .at) n
+    ∷ leb (m .held) n
+    ∷ [])
+
+unfoldable pub freeBytes : ℕ → Marks → ℕ
+freeBytes n m = n - m .held
+
+-- the ring from place k on, and then around to k
+unfoldable pub from : ℕ → List ℕ → List ℕ
+from k ring = drop k ring ++ take k ring
+
+-- the ring whose bytes from place k on, around, are `seen`
+unfoldable pub back : ℕ → List ℕ → List ℕ
+back k seen = from (length seen - k) seen
+
+-- the held bytes, in order
+unfoldable pub held : List ℕ → Marks → List ℕ
+held ring m = take (m .held) (from (m .at) ring)
+
+-- ---- put
+
+-- longer than ring length less held count: 9
+unfoldable pub putAnswer : ℕ → Marks → ℕ → Answer
+putAnswer n m size =
+    firstOf
+    not (ringGood n m) ⇒ WrongRing
+    ⨾ ltb (freeBytes n m) size ⇒ Blocked
+    ⨾ Done
+
+-- A message goes right behind the held bytes and may wrap at the end; no other ring byte changes
+unfoldable pub ringWith : List ℕ → Marks → List ℕ → List ℕ
+ringWith ring m message =
+    back (m .at) (held ring m ++ message ++ drop (m .held + length message) (from (m .at) ring))
+
+-- the count grows by its length
+unfoldable pub marksWith : Marks → ℕ → Marks
+marksWith m n = record { at = m .at; held = m .held + n }
+
+-- the longest unbroken run of held bytes from the read place; over a wrong length or wrong marks it is empty
+unfoldable pub readRun : List ℕ → Marks → List ℕ
+readRun ring m = pick (ringGood (length ring) m) (take (m .held) (drop (m .at) ring)) []
+
+-- ---- release of k bytes
+
+unfoldable pub releaseAnswer : ℕ → Marks → ℕ → Answer
+releaseAnswer n m k =
+    firstOf
+    not (ringGood n m) ⇒ WrongRing
+    ⨾ ltb (m .held) k ⇒ NotHeld
+    ⨾ Done
+
+abbrev pub around : ℕ → ℕ → ℕ
+around n place = pick (ltb place n) place (place - n)
+
+-- moves the place on by k around the ring and lowers the count by k
+unfoldable pub releaseMarks : ℕ → Marks → ℕ → Marks
+releaseMarks n m k =
+    firstOf
+    not (ringGood n m) ⇒ m
+    ⨾ ltb (m .held) k ⇒ m
+    ⨾ record { at = around n (m .at + k); held = m .held - k }

@@ -1,0 +1,279 @@
+-- The sixteen messages of document 004, a table each: the type's letter, the length, and a line for each field with its offset. Which fields
+-- are judged is the paper's (Messages and entries): tokens and stamps everywhere, side and sweep letters inbound.
+use Prim.Native.Char.{code}
+use mathlib.Core.Bool.{not}
+use mathlib.Core.List.{List, [], _∷_, _++_}
+use Prim.Native.Nat.{ℕ}
+use lib.ListN.{length, getD, drop}
+use lib.Dec.{ltb, eqb}
+use Rattle.octets.specs.Choice.{firstOf_, _⇒_⨾_}
+use Rattle.answers.specs.Answer.{ifDone}
+use Rattle.answers.specs.declared.Answer.{Answer}
+use Rattle.answers.specs.declared.Answer.the-variants.{Done, Malformed, BadField, NoRoom}
+use Rattle.octets.specs.Bytes.{zeros}
+use Rattle.wire.specs.Layout.{Layout, Values, stampAt, tokenAt, sideAt, sweepAt, letterAt, numberAt, textAt, noBadPlace, readFields, spell}
+
+-- ---- inbound
+
+abbrev pub enterOrder : Layout
+enterOrder = record {
+  code = code "O";
+  size = 48;
+  fields =
+      tokenAt 1  -- Order Token
+      ∷ sideAt 15  -- Buy/Sell Indicator
+      ∷ numberAt 16 4  -- Shares
+      ∷ textAt 20 8  -- Stock
+      ∷ numberAt 28 4  -- Price
+      ∷ numberAt 32 4  -- Time in Force
+      ∷ textAt 36 4  -- Firm
+      ∷ letterAt 40  -- Display
+      ∷ letterAt 41  -- Capacity
+      ∷ sweepAt 42  -- Intermarket Sweep Eligibility
+      ∷ numberAt 43 4  -- Minimum Quantity
+      ∷ letterAt 47  -- Cross Type
+      ∷ [];
+}
+
+abbrev pub replaceOrder : Layout
+replaceOrder = record {
+  code = code "U";
+  size = 47;
+  fields =
+      tokenAt 1  -- Existing Order Token
+      ∷ tokenAt 15  -- Replacement Order Token
+      ∷ numberAt 29 4  -- Shares
+      ∷ numberAt 33 4  -- Price
+      ∷ numberAt 37 4  -- Time in Force
+      ∷ letterAt 41  -- Display
+      ∷ sweepAt 42  -- Intermarket Sweep Eligibility
+      ∷ numberAt 43 4  -- Minimum Quantity
+      ∷ [];
+}
+
+abbrev pub cancelOrder : Layout
+cancelOrder = record {
+  code = code "X";
+  size = 19;
+  fields =
+      tokenAt 1  -- Order Token
+      ∷ numberAt 15 4  -- Shares
+      ∷ [];
+}
+
+abbrev pub modifyOrder : Layout
+modifyOrder = record {
+  code = code "M";
+  size = 20;
+  fields =
+      tokenAt 1  -- Order Token
+      ∷ sideAt 15  -- Buy/Sell Indicator
+      ∷ numberAt 16 4  -- Shares
+      ∷ [];
+}
+
+-- ---- outbound
+
+abbrev pub systemEvent : Layout
+systemEvent = record {
+  code = code "S";
+  size = 10;
+  fields =
+      stampAt 1  -- Timestamp
+      ∷ letterAt 9  -- Event Code
+      ∷ [];
+}
+
+abbrev pub accepted : Layout
+accepted = record {
+  code = code "A";
+  size = 66;
+  fields =
+      stampAt 1  -- Timestamp
+      ∷ tokenAt 9  -- Order Token
+      ∷ letterAt 23  -- Buy/Sell Indicator
+      ∷ numberAt 24 4  -- Shares
+      ∷ textAt 28 8  -- Stock
+      ∷ numberAt 36 4  -- Price
+      ∷ numberAt 40 4  -- Time in Force
+      ∷ textAt 44 4  -- Firm
+      ∷ letterAt 48  -- Display
+      ∷ numberAt 49 8  -- Order Reference Number
+      ∷ letterAt 57  -- Capacity
+      ∷ letterAt 58  -- Intermarket Sweep Eligibility
+      ∷ numberAt 59 4  -- Minimum Quantity
+      ∷ letterAt 63  -- Cross Type
+      ∷ letterAt 64  -- Order State
+      ∷ letterAt 65  -- BBO Weight Indicator
+      ∷ [];
+}
+
+abbrev pub replaced : Layout
+replaced = record {
+  code = code "U";
+  size = 80;
+  fields =
+      stampAt 1  -- Timestamp
+      ∷ tokenAt 9  -- Replacement Order Token
+      ∷ letterAt 23  -- Buy/Sell Indicator
+      ∷ numberAt 24 4  -- Shares
+      ∷ textAt 28 8  -- Stock
+      ∷ numberAt 36 4  -- Price
+      ∷ numberAt 40 4  -- Time in Force
+      ∷ textAt 44 4  -- Firm
+      ∷ letterAt 48  -- Display
+      ∷ numberAt 49 8  -- Order Reference Number
+      ∷ letterAt 57  -- Capacity
+      ∷ letterAt 58  -- Intermarket Sweep Eligibility
+      ∷ numberAt 59 4  -- Minimum Quantity
+      ∷ letterAt 63  -- Cross Type
+      ∷ letterAt 64  -- Order State
+      ∷ tokenAt 65  -- Previous Order Token
+      ∷ letterAt 79  -- BBO Weight Indicator
+      ∷ [];
+}
+
+abbrev pub canceled : Layout
+canceled = record {
+  code = code "C";
+  size = 28;
+  fields =
+      stampAt 1  -- Timestamp
+      ∷ tokenAt 9  -- Order Token
+      ∷ numberAt 23 4  -- Decrement Shares
+      ∷ letterAt 27  -- Reason
+      ∷ [];
+}
+
+abbrev pub aiqCancelled : Layout
+aiqCancelled = record {
+  code = code "D";
+  size = 37;
+  fields =
+      stampAt 1  -- Timestamp
+      ∷ tokenAt 9  -- Order Token
+      ∷ numberAt 23 4  -- Decrement Shares
+      ∷ letterAt 27  -- Reason
+      ∷ numberAt 28 4  -- Quantity Prevented from Trading
+      ∷ numberAt 32 4  -- Execution Price
+      ∷ letterAt 36  -- Liquidity Flag
+      ∷ [];
+}
+
+abbrev pub executed : Layout
+executed = record {
+  code = code "E";
+  size = 40;
+  fields =
+      stampAt 1  -- Timestamp
+      ∷ tokenAt 9  -- Order Token
+      ∷ numberAt 23 4  -- Executed Shares
+      ∷ numberAt 27 4  -- Execution Price
+      ∷ letterAt 31  -- Liquidity Flag
+      ∷ numberAt 32 8  -- Match Number
+      ∷ [];
+}
+
+abbrev pub brokenTrade : Layout
+brokenTrade = record {
+  code = code "B";
+  size = 32;
+  fields =
+      stampAt 1  -- Timestamp
+      ∷ tokenAt 9  -- Order Token
+      ∷ numberAt 23 8  -- Match Number
+      ∷ letterAt 31  -- Reason
+      ∷ [];
+}
+
+abbrev pub rejected : Layout
+rejected = record {
+  code = code "J";
+  size = 24;
+  fields =
+      stampAt 1  -- Timestamp
+      ∷ tokenAt 9  -- Order Token
+      ∷ letterAt 23  -- Reason
+      ∷ [];
+}
+
+abbrev pub cancelPending : Layout
+cancelPending = record {
+  code = code "P";
+  size = 23;
+  fields =
+      stampAt 1  -- Timestamp
+      ∷ tokenAt 9  -- Order Token
+      ∷ [];
+}
+
+abbrev pub cancelReject : Layout
+cancelReject = record {
+  code = code "I";
+  size = 23;
+  fields =
+      stampAt 1  -- Timestamp
+      ∷ tokenAt 9  -- Order Token
+      ∷ [];
+}
+
+abbrev pub priorityUpdate : Layout
+priorityUpdate = record {
+  code = code "T";
+  size = 36;
+  fields =
+      stampAt 1  -- Timestamp
+      ∷ tokenAt 9  -- Order Token
+      ∷ numberAt 23 4  -- Price
+      ∷ letterAt 27  -- Display
+      ∷ numberAt 28 8  -- Order Reference Number
+      ∷ [];
+}
+
+abbrev pub modified : Layout
+modified = record {
+  code = code "M";
+  size = 28;
+  fields =
+      stampAt 1  -- Timestamp
+      ∷ tokenAt 9  -- Order Token
+      ∷ letterAt 23  -- Buy/Sell Indicator
+      ∷ numberAt 24 4  -- Shares
+      ∷ [];
+}
+
+-- U and M are read as inbound or outbound, as the caller says
+abbrev pub inbound : List Layout
+inbound = enterOrder ∷ replaceOrder ∷ cancelOrder ∷ modifyOrder ∷ []
+
+abbrev pub outbound : List Layout
+outbound =
+    systemEvent ∷ accepted ∷ replaced ∷ canceled ∷ aiqCancelled ∷ executed ∷ brokenTrade ∷ rejected ∷ cancelPending ∷ cancelReject
+    ∷ priorityUpdate ∷ modified ∷ []
+
+-- ---- readers and writers
+
+-- a reader checks length and type (2), then the judged fields (3)
+unfoldable pub readAnswer : Layout → List ℕ → Answer
+readAnswer l s =
+    firstOf
+    not (eqb (length s) (l .size)) ⇒ Malformed
+    ⨾ not (eqb (getD s 0 0) (l .code)) ⇒ Malformed
+    ⨾ not (noBadPlace (l .fields) s) ⇒ BadField
+    ⨾ Done
+
+-- a refused reader's fields are all zero
+unfoldable pub readMessage : (l : Layout) → List ℕ → Values (l .fields)
+readMessage l s = readFields (l .fields) (ifDone (readAnswer l s) s (zeros (l .size)))
+
+-- a writer makes the same checks (3), then room (13)
+unfoldable pub writeAnswer : (l : Layout) → Values (l .fields) → List ℕ → Answer
+writeAnswer l v buffer =
+    firstOf
+    not (noBadPlace (l .fields) (spell l v)) ⇒ BadField
+    ⨾ ltb (length buffer) (l .size) ⇒ NoRoom
+    ⨾ Done
+
+-- bytes after the message stay
+unfoldable pub writeMessage : (l : Layout) → Values (l .fields) → List ℕ → List ℕ
+writeMessage l v buffer = ifDone (writeAnswer l v buffer) (spell l v ++ drop (l .size) buffer) buffer

@@ -1,0 +1,3 @@
+// What messages are made of: tokens, stamps, letters, prices, the two kinds of share number, and layouts.
+pub mod price;
+pub mod shares;
