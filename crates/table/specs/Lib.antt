@@ -1,0 +1,6 @@
+pub mod Limits
+pub mod Counts
+pub mod Order
+pub mod Header
+pub mod Table
+pub mod Fresh
