@@ -1,0 +1,4 @@
+pub mod Types
+pub mod Step
+pub mod Cases
+pub mod Edges

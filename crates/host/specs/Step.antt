@@ -1,0 +1,123 @@
+-- One step: from the table's, the ring's and the entry's bytes to the answer and what is there afterwards. The checks stand in the order of
+-- the answer numbers, and nothing is written before the last of them (Answer numbers, in order of checking).
+use Prim.Native.Nat.{ℕ, _+_}
+use mathlib.Core.Bool.{Bool, not, _&&_}
+use mathlib.Core.List.{List}
+use lib.ListN.{length}
+use lib.Dec.{leb, ltb, eqb}
+use Rattle.octets.specs.Choice.{pick, firstOf_, _⇒_⨾_}
+use Rattle.table.specs.Limits.{endOfReferences}
+use Rattle.table.specs.Table.{sound, header, recordsIn, placeOf, orderNamed, storeOrder, storeHeader}
+use Rattle.outbox.specs.Outbox.{ringGood, freeBytes, ringWith, marksWith}
+use Rattle.tape.specs.Entries.{wellFormed, allLegal, _isAn_, enterEntry, replaceEntry, cancelEntry, modifyEntry, executionEntry, bookCancelEntry, selfMatchEntry, priorityEntry, lateEntry, crossDoneEntry, systemEntry, stampOf, tokenOf, enterOf, replaceOf, cancelOf, modifyOf, executionOf, bookCancelOf, selfMatchOf, priorityOf, systemOf}
+use Rattle.rules.specs.Plan.{refused}
+use Rattle.rules.specs.Sent.{message}
+use Rattle.table.specs.Order.{isUsed}
+use Rattle.answers.specs.Answer.{isDone}
+use Rattle.rules.specs.Enter.{enterRule}
+use Rattle.rules.specs.Replace.{replaceRule}
+use Rattle.rules.specs.Cancel.{cancelRule}
+use Rattle.rules.specs.Modify.{modifyRule}
+use Rattle.rules.specs.Market.{executionRule, bookCancelRule, selfMatchRule, priorityRule, lateRule, crossDoneRule, systemRule}
+use Rattle.host.specs.Types.{Plan, Decision, Order, Header, Marks, Answer, Done, Malformed, BadField, TooEarly, Full, Blocked, NotSound, WrongRing}
+
+pub record World : Type 0 where
+  pub table : List ℕ
+  pub ring : List ℕ
+  pub marks : Marks
+
+pub record Stepped : Type 0 where
+  pub answer : Answer
+  pub world : World
+
+-- ---- the rules: from the header, the orders that the entry names and the entry to a decision
+
+unfoldable pub decide : List ℕ → List ℕ → Decision
+decide t s =
+    let h = header t in
+    let named = orderNamed t (tokenOf s) in
+    firstOf
+    s isAn enterEntry ⇒ enterRule h named (enterOf s)
+    ⨾ s isAn replaceEntry ⇒ replaceRule h named (orderNamed t (replaceOf s .replacement)) (replaceOf s)
+    ⨾ s isAn cancelEntry ⇒ cancelRule named (cancelOf s)
+    ⨾ s isAn modifyEntry ⇒ modifyRule h named (modifyOf s)
+    ⨾ s isAn executionEntry ⇒ executionRule h named (executionOf s)
+    ⨾ s isAn bookCancelEntry ⇒ bookCancelRule named (bookCancelOf s)
+    ⨾ s isAn selfMatchEntry ⇒ selfMatchRule h named (selfMatchOf s)
+    ⨾ s isAn priorityEntry ⇒ priorityRule h named (priorityOf s)
+    ⨾ s isAn lateEntry ⇒ lateRule h named
+    ⨾ s isAn crossDoneEntry ⇒ crossDoneRule named
+    ⨾ s isAn systemEntry ⇒ systemRule h (systemOf s)
+    ⨾ refused Malformed
+
+-- ---- writing a plan down
+
+abbrev pub oneIf : Bool → ℕ
+oneIf b = pick b 1 0
+
+unfoldable pub storeIf : List ℕ → ℕ → Order → List ℕ
+storeIf t i o = pick (isUsed o) (storeOrder t i o) t
+
+-- a done entry's stamp becomes the last stamp
+unfoldable pub headerAfter : Header → ℕ → Plan → Header
+headerAfter h stamp p =
+    record {
+      day = pick (eqb (p .begins) 0) (h .day) (p .begins);
+      count = h .count;
+      used = h .used + oneIf (isUsed (p .added));
+      last = stamp;
+      reference = h .reference + oneIf (p .numbered);
+      threshold = h .threshold;
+      firms = h .firms;
+    }
+
+-- the named order in its own record, the added one behind the used records
+unfoldable pub tableAfter : List ℕ → List ℕ → Plan → List ℕ
+tableAfter t s p =
+    let changed = storeIf t (placeOf t (tokenOf s)) (p .changed) in
+    let added = storeIf changed (header t .used) (p .added) in
+    storeHeader added (headerAfter (header t) (stampOf s) p)
+
+unfoldable pub worldAfter : World → List ℕ → Plan → World
+worldAfter w s p =
+    record {
+      table = tableAfter (w .table) s p;
+      ring = ringWith (w .ring) (w .marks) (message (stampOf s) p);
+      marks = marksWith (w .marks) (length (message (stampOf s) p));
+    }
+
+-- ---- the answers
+
+-- only 0 changes anything
+abbrev pub unchanged : World → Answer → Stepped
+unchanged w a = record { answer = a; world = w }
+
+-- 8: a token must be stored and no record is free, or a reference is needed and the next is 10^18
+unfoldable pub noRecordFree : List ℕ → Plan → Bool
+noRecordFree t p = isUsed (p .added) && leb (recordsIn t) (header t .used)
+
+unfoldable pub noReferenceLeft : List ℕ → Plan → Bool
+noReferenceLeft t p = p .numbered && eqb (header t .reference) endOfReferences
+
+-- 9: the message is longer than ring length less held count
+unfoldable pub noRoom : World → List ℕ → Plan → Bool
+noRoom w s p = ltb (freeBytes (length (w .ring)) (w .marks)) (length (message (stampOf s) p))
+
+unfoldable pub settle : World → List ℕ → Decision → Stepped
+settle w s d =
+    firstOf
+    not (isDone (d .answer)) ⇒ unchanged w (d .answer)
+    ⨾ noRecordFree (w .table) (d .plan) ⇒ unchanged w Full
+    ⨾ noReferenceLeft (w .table) (d .plan) ⇒ unchanged w Full
+    ⨾ noRoom w s (d .plan) ⇒ unchanged w Blocked
+    ⨾ record { answer = Done; world = worldAfter w s (d .plan) }
+
+unfoldable pub step : World → List ℕ → Stepped
+step w s =
+    firstOf
+    not (sound (w .table)) ⇒ unchanged w NotSound
+    ⨾ not (ringGood (length (w .ring)) (w .marks)) ⇒ unchanged w WrongRing
+    ⨾ not (wellFormed s) ⇒ unchanged w Malformed
+    ⨾ not (allLegal s) ⇒ unchanged w BadField
+    ⨾ ltb (stampOf s) (header (w .table) .last) ⇒ unchanged w TooEarly
+    ⨾ settle w s (decide (w .table) s)

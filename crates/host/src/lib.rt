@@ -1,0 +1,1 @@
+// The host: one call that takes an entry, and the theorems of the whole.

@@ -1,0 +1,100 @@
+-- O (What each entry does).
+use Prim.Native.Nat.{ℕ, min}
+use mathlib.Core.Bool.{Bool, not, _&&_, _||_}
+use mathlib.Core.Option.{Option, none, some}
+use lib.Dec.{ltb, eqb}
+use Rattle.octets.specs.Choice.{pick, firstOf_, _⇒_⨾_, among}
+use Rattle.octets.specs.Bytes.{zeros}
+use Rattle.wire.specs.Letters.{live, closed, firmNotListed, invalidStock, notInThisCross, invalidDisplay, invalidPrice, aboveThreshold, invalidMinimum, displays, crosses, capacities, imbalanceOnly, noCross, otherCapacity}
+use Rattle.wire.specs.Limits.{tokenSize}
+use Rattle.wire.specs.Text.{shaped}
+use Rattle.wire.specs.Price.{goodPrice}
+use Rattle.wire.specs.Shares.{total, exceeds, _less_, _isBelow_, _equals_}
+use Rattle.table.specs.Counts.{newCounts}
+use Rattle.table.specs.Order.{isUsed}
+use Rattle.table.specs.Header.{isOpenDay, meantFirm, isListed}
+use Rattle.rules.specs.Limits.{longestTime, immediate}
+use Rattle.rules.specs.Plan.{ignored, accepting, rejecting}
+use Rattle.rules.specs.Types.{Decision, Total, Removed, Kept, Terms, Order, Header, EnterOrder}
+
+-- ---- faults that O and U share
+
+-- D: display not among A Y N P I M W, or I with cross N
+unfoldable pub badDisplay : ℕ → ℕ → Bool
+badDisplay display cross = not (among displays display) || (eqb display imbalanceOnly && eqb cross noCross)
+
+-- X: price neither 1 to 1,999,999,900 nor 2,147,483,647 with cross O or C
+unfoldable pub badPrice : ℕ → ℕ → Bool
+badPrice price cross = not (goodPrice price cross)
+
+-- Z: shares 0 or not below threshold
+unfoldable pub badShares : Header → Total → Bool
+badShares h shares = (shares equals total 0) || not (shares isBelow h .threshold)
+
+-- N: minimum above 0 with time in force not 0, or above shares
+unfoldable pub badMinimum : ℕ → ℕ → Removed → Bool
+badMinimum minimum time shares = (ltb 0 minimum && not (eqb time immediate)) || exceeds minimum shares
+
+-- ---- the fault of an O: its letter
+
+unfoldable pub enterFault : Header → EnterOrder → Option ℕ
+enterFault h e =
+    firstOf
+    not (isOpenDay h) ⇒ some closed
+    ⨾ not (isListed h (meantFirm h (e .firm))) ⇒ some firmNotListed
+    ⨾ not (shaped (e .stock)) ⇒ some invalidStock
+    ⨾ not (among crosses (e .cross)) ⇒ some notInThisCross
+    ⨾ badDisplay (e .display) (e .cross) ⇒ some invalidDisplay
+    ⨾ badPrice (e .price) (e .cross) ⇒ some invalidPrice
+    ⨾ badShares h (e .shares) ⇒ some aboveThreshold
+    ⨾ badMinimum (e .minimum) (e .time) (e .shares less total 0) ⇒ some invalidMinimum
+    ⨾ none
+
+-- ---- the order as accepted
+
+-- time in force above 99,999 becomes 99,999
+unfoldable pub acceptedTime : ℕ → ℕ
+acceptedTime time = min time longestTime
+
+unfoldable pub enteredTerms : EnterOrder → Terms
+enteredTerms e =
+    record { price = e .price; time = acceptedTime (e .time); display = e .display; sweep = e .sweep; minimum = e .minimum }
+
+-- a blank firm becomes the default; capacity outside A P R becomes O
+unfoldable pub enteredKept : Header → EnterOrder → Kept
+enteredKept h e =
+    record {
+      stock = e .stock;
+      firm = meantFirm h (e .firm);
+      capacity = pick (among capacities (e .capacity)) (e .capacity) otherCapacity;
+      cross = e .cross;
+    }
+
+-- live, with the next reference
+unfoldable pub enteredOrder : Header → EnterOrder → Order
+enteredOrder h e =
+    record {
+      state = live;
+      token = e .token;
+      side = e .side;
+      shares = newCounts (e .shares);
+      flags = 0;
+      details = record {
+        kept = enteredKept h e;
+        terms = enteredTerms e;
+        reference = h .reference;
+        previous = zeros tokenSize;
+        spare = 0;
+      };
+    }
+
+unfoldable pub enterOutcome : Header → EnterOrder → Option ℕ → Decision
+enterOutcome h e (some reason) = rejecting (e .token) reason
+enterOutcome h e none = accepting (enteredOrder h e)
+
+-- `found` is what the entry's token means so far
+unfoldable pub enterRule : Header → Order → EnterOrder → Decision
+enterRule h found e =
+    firstOf
+    isUsed found ⇒ ignored
+    ⨾ enterOutcome h e (enterFault h e)

@@ -1,0 +1,105 @@
+-- The message that a plan sends, stamped with the entry's stamp (Answer numbers, in order of checking, last sentence; What each entry does).
+use Prim.Native.Nat.{ℕ}
+use mathlib.Core.List.{List, []}
+use Rattle.wire.specs.Letters.{selfMatchPrevention, unspecifiedWeight}
+use Rattle.table.specs.Counts.{openShares}
+use Rattle.outbound.specs.Outbound.{systemEventBytes, acceptedBytes, replacedBytes, canceledBytes, aiqCancelledBytes, executedBytes, rejectedBytes, cancelPendingBytes, cancelRejectBytes, priorityUpdateBytes, modifiedBytes}
+use Rattle.outbound.specs.declared.accepted.Accepted.{Accepted as AcceptedMessage}
+use Rattle.outbound.specs.declared.replaced.Replaced.{Replaced as ReplacedMessage}
+use Rattle.rules.specs.Types.{Order, Plan, Notice, Accepted, AiqCancelled, CancelPending, CancelReject, Canceled, Executed, Modified, PriorityUpdate, Rejected, Replaced, Silent, SystemEvent}
+
+-- fields echoed and so stored; weight is a space
+unfoldable pub acceptedNotice : ℕ → Order → AcceptedMessage
+acceptedNotice stamp o =
+    let k = o .details .kept in
+    let t = o .details .terms in
+    record {
+      stamp = stamp;
+      token = o .token;
+      side = o .side;
+      shares = openShares (o .shares);
+      stock = k .stock;
+      price = t .price;
+      time = t .time;
+      firm = k .firm;
+      display = t .display;
+      reference = o .details .reference;
+      capacity = k .capacity;
+      sweep = t .sweep;
+      minimum = t .minimum;
+      cross = k .cross;
+      state = o .state;
+      weight = unspecifiedWeight;
+    }
+
+-- Replaced with Shares = new open; the previous token is the existing one
+unfoldable pub replacedNotice : ℕ → Order → ReplacedMessage
+replacedNotice stamp o =
+    let k = o .details .kept in
+    let t = o .details .terms in
+    record {
+      stamp = stamp;
+      token = o .token;
+      side = o .side;
+      shares = openShares (o .shares);
+      stock = k .stock;
+      price = t .price;
+      time = t .time;
+      firm = k .firm;
+      display = t .display;
+      reference = o .details .reference;
+      capacity = k .capacity;
+      sweep = t .sweep;
+      minimum = t .minimum;
+      cross = k .cross;
+      state = o .state;
+      previous = o .details .previous;
+      weight = unspecifiedWeight;
+    }
+
+-- o is the changed order, new the added one
+unfoldable pub noticeBytes : ℕ → Order → Order → Notice → List ℕ
+noticeBytes stamp o new Silent = []
+noticeBytes stamp o new (SystemEvent event) = systemEventBytes (record { stamp = stamp; event = event })
+noticeBytes stamp o new Accepted = acceptedBytes (acceptedNotice stamp new)
+noticeBytes stamp o new Replaced = replacedBytes (replacedNotice stamp new)
+noticeBytes stamp o new (Canceled decrement reason) =
+    canceledBytes (record { stamp = stamp; token = o .token; decrement = decrement; reason = reason })
+noticeBytes stamp o new (AiqCancelled e) =
+    aiqCancelledBytes
+    (record {
+      stamp = stamp;
+      token = o .token;
+      decrement = e .shares;
+      reason = selfMatchPrevention;
+      prevented = e .prevented;
+      price = e .price;
+      flag = e .flag;
+    })
+noticeBytes stamp o new (Executed e) =
+    executedBytes
+    (record {
+      stamp = stamp;
+      token = o .token;
+      shares = e .shares;
+      price = e .price;
+      flag = e .flag;
+      «match_number» = e .«match_number»;
+    })
+noticeBytes stamp o new (Rejected reason) = rejectedBytes (record { stamp = stamp; token = new .token; reason = reason })
+noticeBytes stamp o new CancelPending = cancelPendingBytes (record { stamp = stamp; token = o .token })
+noticeBytes stamp o new CancelReject = cancelRejectBytes (record { stamp = stamp; token = o .token })
+noticeBytes stamp o new PriorityUpdate =
+    priorityUpdateBytes
+    (record {
+      stamp = stamp;
+      token = o .token;
+      price = o .details .terms .price;
+      display = o .details .terms .display;
+      reference = o .details .reference;
+    })
+noticeBytes stamp o new Modified =
+    modifiedBytes (record { stamp = stamp; token = o .token; side = o .side; shares = openShares (o .shares) })
+
+unfoldable pub message : ℕ → Plan → List ℕ
+message stamp p = noticeBytes stamp (p .changed) (p .added) (p .notice)

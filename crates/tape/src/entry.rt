@@ -1,0 +1,29 @@
+// What the engine's entries say beside stamp and token. (O, U, X and M carry the inbound messages, and are read as those.)
+use wire::shares::Removed;
+
+pub struct Execution {
+    pub shares: Removed,
+    pub price: u32,
+    pub flag: u8,
+    pub match_number: u64,
+}
+
+pub struct BookCancel {
+    pub shares: Removed,
+    pub reason: u8,
+}
+
+pub struct SelfMatch {
+    pub shares: Removed,
+    pub prevented: Removed,
+    pub price: u32,
+    pub flag: u8,
+}
+
+pub struct Priority {
+    pub price: u32,
+}
+
+pub struct System {
+    pub event: u8,
+}
