@@ -1,0 +1,34 @@
+// Releasing: the oldest k bytes are given up. The read place moves on around the ring, and no byte moves.
+use answers::Answer;
+use crate::marks::{Marks, Moved, around, ring_good};
+
+ghost use mathlib.Core.Path.{_≡_};
+ghost use Rattle.outbox.specs.Outbox.{releaseMoved, releaseAnswer, releaseMarks};
+
+pub fn release(n: usize, marks: Marks, k: usize) -> Moved
+    ensures { λ r. ⌜ r ≡ releaseMoved n marks k ⌝ }
+{
+    if ring_good(n, marks) {
+        let at = marks.at;
+        let held = marks.held;
+        if k <= held {
+            Moved {
+                answer: Answer::Done,
+                marks: Marks {
+                    at: around(n, at + k),
+                    held: held - k,
+                },
+            }
+        } else {
+            Moved {
+                answer: Answer::NotHeld,
+                marks,
+            }
+        }
+    } else {
+        Moved {
+            answer: Answer::WrongRing,
+            marks,
+        }
+    }
+}
