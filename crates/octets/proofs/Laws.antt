@@ -124,6 +124,10 @@ put-put xs at ys zs h =
     let e : at + length (ys ++ zs) ≡ at + length ys + length zs = omega (arith, length-append ys zs) in
     rw (take-put xs at ys (omega arith), drop-put-after xs at ys (omega arith) (at + length ys + length zs) (omega arith), e, append-assoc ys zs, append-assoc (take at xs) ys)
 
+-- what is put inside the first of two lists
+pub put-left : (xs zs : List ℕ) (at : ℕ) (ys : List ℕ) → at + length ys ≤ length xs → put (xs ++ zs) at ys ≡ put xs at ys ++ zs
+put-left xs zs at ys h = rw (take-append-le at xs zs (omega arith), drop-append-le (at + length ys) xs zs h) (simp append-assoc)
+
 -- v is xs with the n bytes ys put at `at`
 pub record Written (xs v : List ℕ) (at n : ℕ) (ys : List ℕ) : Type 0 where
   pub is : v ≡ put xs at ys

@@ -1,1 +1,4 @@
 pub mod Opened
+pub mod Ring
+pub mod Right
+pub mod Runs

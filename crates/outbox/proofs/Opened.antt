@@ -1,6 +1,7 @@
 -- Everything that specs/ defines, open at once, for proofs by computation. Assumes nothing.
-use Rattle.outbox.specs.Outbox.{ringGood, freeBytes, from, back, held, putAnswer, ringWith, marksWith, readRun, releaseAnswer, releaseMarks}
+use Rattle.outbox.specs.Outbox.{ringGood, freeBytes, from, back, held, putAnswer, ringWith, marksWith, readRun, releaseAnswer, marksWithout, putRing, putMarks, releaseMarks}
+use Rattle.outbox.specs.Runs.{inTwoRuns}
 
 unfoldable pub opened : Unit {0}
-unfolding ringGood freeBytes from back held putAnswer ringWith marksWith readRun releaseAnswer releaseMarks
+unfolding ringGood freeBytes from back held putAnswer ringWith marksWith readRun releaseAnswer marksWithout putRing putMarks releaseMarks inTwoRuns
 opened = tt

@@ -35,10 +35,11 @@ unfolding cutAt
 returns-3 c =
     let e = c .before .before .length-of .ensures in
     let p = c .before .before .before .before in
-    simp
-    (lt-leb _ _ (p .if1 .left),
-    ne-eqb _ _ (λ z. c .before .if2 .left (e ∙ z)),
-    lt-ltb _ _ (rw e at (c .if3 .taken)))
+    simp (
+      lt-leb _ _ (p .if1 .left),
+      ne-eqb _ _ (λ z. c .before .if2 .left (e ∙ z)),
+      lt-ltb _ _ (rw e at (c .if3 .taken)),
+    )
 
 add-t4 : tie.Need-add-t4
 add-t4 c = search needs
@@ -48,11 +49,12 @@ unfolding cutAt
 returns-4 c =
     let e = c .before .before .length-of .ensures in
     let p = c .before .before .before .before in
-    simp
-    (e,
-    lt-leb _ _ (p .if1 .left),
-    ne-eqb _ _ (λ z. c .before .if2 .left (e ∙ z)),
-    le-ltb _ _ (rw e at (c .if3 .left)))
+    simp (
+      e,
+      lt-leb _ _ (p .if1 .left),
+      ne-eqb _ _ (λ z. c .before .if2 .left (e ∙ z)),
+      le-ltb _ _ (rw e at (c .if3 .left)),
+    )
 
 pub cut-at-spec : {M : Type 1} → statement M
 cut-at-spec =
