@@ -1,3 +1,4 @@
 pub mod Limits
 pub mod Outbox
 pub mod Runs
+pub mod Place

@@ -2,10 +2,13 @@
 use crate::marks::Marks;
 use crate::marks::ring_good;
 ghost use mathlib.Core.Path.{_≡_};
+ghost use lib.ListN.{length};
+ghost use denote.Ref.{ptr};
 ghost use Rattle.outbox.specs.Outbox.{readRun};
+ghost use Rattle.outbox.specs.Place.{readPlace, onBy};
 
 pub fn read(ring: &[u8], marks: Marks) -> &[u8]
-    ensures { λ r. ⌜ now r ≡ readRun (now (ring .entry)) marks ⌝ }
+    ensures { λ r. ⌜ (now r ≡ readRun (now (ring .entry)) marks) × (ptr r ≡ onBy (readPlace (length (now (ring .entry))) marks) (ptr (ring .entry))) ⌝ }
 {
     let n = ring.len();
     if ring_good(n, marks) {

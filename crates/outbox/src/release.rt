@@ -34,3 +34,27 @@ pub fn release(n: usize, marks: Marks, k: usize) -> Moved
         }
     }
 }
+
+// What a release answers, and the marks that it leaves: `release` taken apart, so that the lender below is two whole copies.
+fn release_answer(n: usize, marks: Marks, k: usize) -> Answer
+    ensures { λ r. ⌜ r ≡ releaseAnswer n marks k ⌝ }
+{
+    let moved = release(n, marks, k);
+    moved.answer
+}
+
+fn release_marks(n: usize, marks: Marks, k: usize) -> Marks
+    ensures { λ r. ⌜ r ≡ releaseMarks n marks k ⌝ }
+{
+    let moved = release(n, marks, k);
+    moved.marks
+}
+
+// The same release over marks that the caller lends: they are moved where they stand.
+pub fn release_in_place(n: usize, marks: &mut Marks, k: usize) -> Answer
+    ensures { λ r. ⌜ (r ≡ releaseAnswer n (now (marks .entry)) k) × (now (marks .exit) ≡ releaseMarks n (now (marks .entry)) k) ⌝ }
+{
+    let answer = release_answer(n, *marks, k);
+    *marks = release_marks(n, *marks, k);
+    answer
+}
