@@ -3,3 +3,4 @@ pub mod cutting;
 pub mod entry;
 pub mod judging;
 pub mod kinds;
+pub mod reading;
