@@ -34,7 +34,7 @@ pub fn ring_good(n: usize, marks: Marks) -> bool
 }
 
 // A place of the ring, from one that may have passed its end once. No division: a place never passes the end twice.
-pub fn around(n: usize, place: usize) -> usize
+pub(crate) fn around(n: usize, place: usize) -> usize
     ensures { λ r. ⌜ r ≡ around n place ⌝ }
 {
     if place < n {
