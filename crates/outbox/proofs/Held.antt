@@ -11,7 +11,7 @@ use Rattle.octets.proofs.Laws.{take-put}
 use Rattle.outbox.specs.Outbox.{Marks, ringGood, freeBytes, around, from, held, ringWith, marksWith, marksWithout}
 use Rattle.outbox.proofs.Right.{Right, right, good}
 use Rattle.outbox.proofs.Ring.{length-from, from-around, around-below}
-use Rattle.outbox.proofs.Runs.{Fits, fits-free, from-with, length-with}
+use Rattle.outbox.proofs.Runs.{fits-free, from-with}
 
 -- what follows the first j of a list's first h
 drop-take : (j h : ℕ) (l : List ℕ) → j ≤ h → h ≤ length l → drop j (take h l) ≡ take (h - j) (drop j l)
@@ -20,6 +20,21 @@ drop-take j h l jh hl =
     ap (λ (n : ℕ). drop j (take n l)) q
     ∙ ap (drop j) (take-add j (h - j) l)
     ∙ drop-at (take j l) (take (h - j) (drop j l)) j (length-take-le j l (omega arith))
+
+-- right marks stay right
+module _ (n : ℕ) (m : Marks) (ok : ringGood n m ≡ true) (size : ℕ) where
+  pub good-with : size ≤ freeBytes n m → ringGood n (marksWith m size) ≡ true
+  unfolding marksWith freeBytes
+  good-with room =
+      let r = right n m ok in
+      good n (marksWith m size) (record { short = r .short; long = r .long; place = r .place; count = omega arith })
+
+  pub good-without : size ≤ m .held → ringGood n (marksWithout n m size) ≡ true
+  unfolding marksWithout
+  good-without enough =
+      let r = right n m ok in
+      good n (marksWithout n m size)
+      (record { short = r .short; long = r .long; place = around-below n (m .at + size) (omega arith); count = omega arith })
 
 module _ (ring : List ℕ) (m : Marks) (ok : ringGood (length ring) m ≡ true) where
   r : Right (length ring) m
@@ -39,12 +54,6 @@ module _ (ring : List ℕ) (m : Marks) (ok : ringGood (length ring) m ≡ true) 
         ap (take (m .held + length message)) (from-with ring m message (fits-free ring m message ok room))
         ∙ take-put (from (m .at) ring) (m .held) message (omega (arith, r, seen))
 
-    pub good-with : ringGood (length (ringWith ring m message)) (marksWith m (length message)) ≡ true
-    unfolding marksWith freeBytes
-    good-with =
-        ap (λ (n : ℕ). ringGood n (marksWith m (length message))) (length-with ring m message (fits-free ring m message ok room))
-        ∙ good (length ring) (marksWith m (length message)) (record { short = r .short; long = r .long; place = r .place; count = omega (arith, r) })
-
   module _ (k : ℕ) (enough : k ≤ m .held) where
     pub held-without : held ring (marksWithout (length ring) m k) ≡ drop k (held ring m)
     unfolding held from marksWithout
@@ -53,14 +62,3 @@ module _ (ring : List ℕ) (m : Marks) (ok : ringGood (length ring) m ≡ true) 
         ap (take (m .held - k)) (from-around (m .at) k ring (omega (arith, r)) (omega (arith, r)))
         ∙ take-append-le (m .held - k) (drop k (from (m .at) ring)) (take k (from (m .at) ring)) rest
         ∙ sym (drop-take k (m .held) (from (m .at) ring) enough (omega (arith, r, seen)))
-
-    pub good-without : ringGood (length ring) (marksWithout (length ring) m k) ≡ true
-    unfolding marksWithout
-    good-without =
-        good (length ring) (marksWithout (length ring) m k)
-        (record {
-          short = r .short;
-          long = r .long;
-          place = around-below (length ring) (m .at + k) (omega (arith, r));
-          count = omega (arith, r);
-        })

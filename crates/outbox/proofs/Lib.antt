@@ -2,5 +2,8 @@ pub mod Right
 pub mod Guards
 pub mod Ring
 pub mod Runs
+pub mod Bytes
 pub mod Held
+pub mod Board
+pub mod Drain
 pub mod Unique

@@ -1,6 +1,5 @@
 // The marks of a ring: where the held bytes begin and how many there are.
 use answers::Answer;
-
 ghost use mathlib.Core.Path.{_≡_};
 ghost use Rattle.outbox.specs.Outbox.{ringGood, around};
 
@@ -37,9 +36,5 @@ pub fn ring_good(n: usize, marks: Marks) -> bool
 pub(crate) fn around(n: usize, place: usize) -> usize
     ensures { λ r. ⌜ r ≡ around n place ⌝ }
 {
-    if place < n {
-        place
-    } else {
-        place - n
-    }
+    if place < n { place } else { place - n }
 }

@@ -1,7 +1,9 @@
 // Putting: a message goes right behind the held bytes, or it is turned away whole.
+use crate::marks::Marks;
+use crate::marks::Moved;
+use crate::marks::around;
+use crate::marks::ring_good;
 use answers::Answer;
-use crate::marks::{Marks, Moved, around, ring_good};
-
 ghost use mathlib.Core.Path.{_≡_};
 ghost use Prim.Native.Nat.{_≤_};
 ghost use mathlib.Core.Bool.{true};

@@ -1,6 +1,6 @@
 // Reading: the longest unbroken run of held bytes, handed back as a part of the caller's own ring.
-use crate::marks::{Marks, ring_good};
-
+use crate::marks::Marks;
+use crate::marks::ring_good;
 ghost use mathlib.Core.Path.{_≡_};
 ghost use lib.ListN.{length};
 ghost use denote.Ref.{ptr};

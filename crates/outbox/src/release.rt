@@ -1,7 +1,9 @@
 // Releasing: the oldest k bytes are given up. The read place moves on around the ring, and no byte moves.
+use crate::marks::Marks;
+use crate::marks::Moved;
+use crate::marks::around;
+use crate::marks::ring_good;
 use answers::Answer;
-use crate::marks::{Marks, Moved, around, ring_good};
-
 ghost use mathlib.Core.Path.{_≡_};
 ghost use Rattle.outbox.specs.Outbox.{releaseMoved, releaseAnswer, releaseMarks};
 

@@ -46,10 +46,12 @@ unfolding marksWith
 returns c =
     let s = c .before .before .before .before .before .before .before in
     let ring = now (s .args .ring) in
-    let message = now (s .args .message) in
-    (refl, c .before .before .copy-around .ensures
-    ∙ ap (λ (p : ℕ). inTwoRuns ring p message) (c .before .before .before .before .around .ensures)
-    ∙ sym (two-runs ring (s .args .marks) message (fits-free ring (s .args .marks) message (s .pre .0) (s .pre .1))))
+    let message = now (s .args .message) in (
+      refl,
+      c .before .before .copy-around .ensures
+          ∙ ap (λ (p : ℕ). inTwoRuns ring p message) (c .before .before .before .before .around .ensures)
+          ∙ sym (two-runs ring (s .args .marks) message (fits-free ring (s .args .marks) message (s .pre .0) (s .pre .1))),
+    )
 
 pub append-spec : {M : Type 1} → statement M
 append-spec =
