@@ -113,7 +113,7 @@ drop-put-after xs at ys h k g =
     subst (λ (j : ℕ). drop j (put xs at ys) ≡ drop j xs) e
     (sym (drop-drop _ (at + length ys) (put xs at ys)) ∙ ap (drop (k - (at + length ys))) (drop-put xs at ys h) ∙ drop-drop _ (at + length ys) xs)
 
-take-put : (xs : List ℕ) (at : ℕ) (ys : List ℕ) → at + length ys ≤ length xs → take (at + length ys) (put xs at ys) ≡ take at xs ++ ys
+pub take-put : (xs : List ℕ) (at : ℕ) (ys : List ℕ) → at + length ys ≤ length xs → take (at + length ys) (put xs at ys) ≡ take at xs ++ ys
 take-put xs at ys h =
     ap (take (at + length ys)) (sym (append-assoc (take at xs) ys (drop (at + length ys) xs)))
     ∙ take-at (take at xs ++ ys) _ (at + length ys) (length-append (take at xs) ys ∙ ap (λ (k : ℕ). k + length ys) (head xs at ys h))

@@ -1,4 +1,11 @@
 pub mod Opened
 pub mod Ring
 pub mod Right
+pub mod Guards
+pub mod Ring
 pub mod Runs
+pub mod Bytes
+pub mod Held
+pub mod Board
+pub mod Drain
+pub mod Unique

@@ -9,7 +9,7 @@ use native.Mathlib.Omega.{arith}
 use lib.Dec.{ltb}
 use lib.ListN.{length, take, drop, getD, length-append, length-drop, take-append-drop, List·getD-append}
 use lib.Seq.{length-take-le, take-at, drop-at, take-append-le, drop-append-le, take-append-add, drop-append-add, take-take, drop-drop, take-add, getD-drop}
-use borrow.Author.Tests.{ltb-true, ltb-false, le-ltb}
+use borrow.Author.Tests.{ltb-true, ltb-false, lt-ltb, le-ltb}
 use Rattle.octets.specs.Choice.{pick}
 use Rattle.octets.specs.Bytes.{put}
 use Rattle.octets.proofs.Laws.{length-put, put-left}
@@ -64,6 +64,20 @@ around-end n place toEnd reach h = go (ltb place n) refl reach
         let past : n ≤ place = ltb-false _ _ e in
         let no-way : ⊥ = omega arith in
         absurd no-way
+
+-- every place of the ring is seen: which byte from place a on stands at place i
+pub around-back : (n a i : ℕ) → a < n → i < n → around n (a + around n (i + (n - a))) ≡ i
+around-back n a i ha hi = go (ltb (i + (n - a)) n) refl
+  where
+    go : (b : Bool) → ltb (i + (n - a)) n ≡ b → around n (a + pick b (i + (n - a)) (i + (n - a) - n)) ≡ i
+    go true e =
+        let h : i + (n - a) < n = ltb-true _ _ e in
+        let past : n ≤ a + (i + (n - a)) = omega arith in
+        simp (le-ltb (a + (i + (n - a))) n past) (omega arith)
+    go false e =
+        let h : n ≤ i + (n - a) = ltb-false _ _ e in
+        let q : a + (i + (n - a) - n) ≡ i = omega arith in
+        rw (q, lt-ltb i n hi)
 
 -- the place moves on by j: the same as looking on from the j-th byte that was seen
 pub from-around : (a j : ℕ) (ring : List ℕ) → a ≤ length ring → j ≤ length ring → from (around (length ring) (a + j)) ring ≡ from j (from a ring)

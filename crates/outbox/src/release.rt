@@ -2,6 +2,7 @@
 use crate::marks::Marks;
 use crate::marks::Moved;
 use crate::marks::around;
+use crate::marks::refused;
 use crate::marks::ring_good;
 use answers::Answer;
 ghost use mathlib.Core.Path.{_≡_};
@@ -22,16 +23,10 @@ pub fn release(n: usize, marks: Marks, k: usize) -> Moved
                 },
             }
         } else {
-            Moved {
-                answer: Answer::NotHeld,
-                marks,
-            }
+            refused(Answer::NotHeld, marks)
         }
     } else {
-        Moved {
-            answer: Answer::WrongRing,
-            marks,
-        }
+        refused(Answer::WrongRing, marks)
     }
 }
 

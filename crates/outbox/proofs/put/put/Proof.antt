@@ -1,6 +1,7 @@
 -- At each return the tests that led there are the guards of `putAnswer`. Assumes nothing.
 use mathlib.Core.Path.{_≡_, refl, sym, ap, _∙_}
 use mathlib.Core.Bool.{true}
+use native.Mathlib.Omega.{arith}
 use lib.ListN.{length}
 use denote.Ref.{now}
 use borrow.Author.Needs.{needs}
@@ -23,11 +24,17 @@ good : (c : tie.Then1) → ringGood (length (now (c .before .before .before .bef
 good c = sym (c .before .ring-good .ensures) ∙ c .if1 .taken
 
 sub-if2 : tie.Need-sub-if2
-sub-if2 c = right _ _ (good c) .count
+sub-if2 c = omega (arith, right _ _ (good c))
 
 append-requires : tie.Need-append-requires
 unfolding freeBytes
-append-requires c κs = (good (c .before .before), c .before .if2 .taken)
+append-requires c κs = (good (c .before .before), omega arith)
+
+refused-requires : tie.Need-refused-requires
+refused-requires c κs = search needs
+
+refused-requires-2 : tie.Need-refused-requires-2
+refused-requires-2 c κs = search needs
 
 same-length : tie.Need-same-length
 same-length c = search needs
@@ -41,13 +48,13 @@ returns c =
 
 returns-2 : tie.Need-returns-2
 unfolding putAnswer putMarks putRing freeBytes ifDone isDone
-returns-2 c = simp (good (c .before), lt-ltb _ _ (c .if2 .left)) (refl, refl)
+returns-2 c = simp (good (c .before .before), lt-ltb _ _ (c .before .if2 .left)) (c .refused .ensures, refl)
 
 returns-3 : tie.Need-returns-3
 unfolding putAnswer putMarks putRing freeBytes ifDone isDone
-returns-3 c = simp (sym (c .before .ring-good .ensures) ∙ c .if1 .left) (refl, refl)
+returns-3 c = simp (sym (c .before .before .ring-good .ensures) ∙ c .before .if1 .left) (c .refused2 .ensures, refl)
 
 pub put-spec : {M : Type 1} → statement M
 put-spec =
     tie.close
-    (tie.spec ring-good-requires sub-if2 append-requires same-length returns returns-2 returns-3)
+    (tie.spec ring-good-requires sub-if2 append-requires refused-requires refused-requires-2 same-length returns returns-2 returns-3)
