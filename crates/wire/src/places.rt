@@ -7,7 +7,6 @@ use crate::letters::is_sweep;
 use crate::letters::is_system_event;
 use crate::price::Price;
 use crate::text::is_token_byte;
-
 ghost use mathlib.Core.Path.{_≡_};
 ghost use Prim.Native.Nat.{_+_, _<_, _≤_};
 ghost use lib.ListN.{length};
