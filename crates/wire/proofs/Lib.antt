@@ -1,3 +1,5 @@
 pub mod Opened
 pub mod Shapes
 pub mod Tokens
+pub mod Numbered
+pub mod Verdicts

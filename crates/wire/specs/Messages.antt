@@ -1,13 +1,13 @@
 -- The sixteen messages of document 004, a table each: the type's letter, the length, and a line for each field with its offset. Which fields
 -- are judged is the paper's (Messages and entries): tokens and stamps everywhere, side and sweep letters inbound.
 use Prim.Native.Char.{code}
-use mathlib.Core.Bool.{not}
+use mathlib.Core.Bool.{Bool, not}
 use mathlib.Core.List.{List, [], _∷_, _++_}
 use mathlib.Core.Option.{Option, none, some}
 use Prim.Native.Nat.{ℕ}
 use lib.ListN.{length, getD, drop}
 use lib.Dec.{ltb, eqb}
-use Rattle.octets.specs.Choice.{firstOf_, _⇒_⨾_}
+use Rattle.octets.specs.Choice.{pick, firstOf_, _⇒_⨾_}
 use Rattle.answers.specs.Answer.{ifDone}
 use Rattle.answers.specs.declared.Answer.{Answer}
 use Rattle.answers.specs.declared.Answer.the-variants.{Done, Malformed, BadField, NoRoom}
@@ -254,9 +254,15 @@ outbound =
     systemEvent ∷ accepted ∷ replaced ∷ canceled ∷ aiqCancelled ∷ executed ∷ brokenTrade ∷ rejected ∷ cancelPending ∷ cancelReject
     ∷ priorityUpdate ∷ modified ∷ []
 
+abbrev pub messages : List Layout
+messages = inbound ++ outbound
+
+abbrev pub noMessage : Layout
+noMessage = record { code = 0; size = 0; fields = [] }
+
 -- message k, the inbound ones first
 abbrev pub message : ℕ → Layout
-message k = getD (inbound ++ outbound) k (record { code = 0; size = 0; fields = [] })
+message k = getD messages k noMessage
 
 abbrev pub sizeOr0 : Option Layout → ℕ
 sizeOr0 none = 0
@@ -265,6 +271,9 @@ sizeOr0 (some l) = l .size
 -- the length of the message among these with this type, 0 where there is none
 unfoldable pub lengthFor : List Layout → ℕ → ℕ
 lengthFor ls letter = sizeOr0 (layoutFor ls letter)
+
+abbrev pub messageLength : Bool → ℕ → ℕ
+messageLength isInbound letter = lengthFor (pick isInbound inbound outbound) letter
 
 -- ---- readers and writers
 
