@@ -1,1 +1,4 @@
 pub mod Shapes
+pub mod Tokens
+pub mod Numbered
+pub mod Verdicts
