@@ -1,2 +1,3 @@
 pub mod Opened
 pub mod Flags
+pub mod Runs

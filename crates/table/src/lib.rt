@@ -2,4 +2,6 @@
 pub mod counts;
 pub mod header;
 pub mod order;
+pub mod places;
+pub mod record;
 pub mod settings;
