@@ -2,7 +2,6 @@ pub mod Opened
 pub mod Ring
 pub mod Right
 pub mod Guards
-pub mod Ring
 pub mod Runs
 pub mod Bytes
 pub mod Held
