@@ -1,6 +1,8 @@
+pub mod Lists
+pub mod Ring
 pub mod Right
 pub mod Guards
-pub mod Ring
+pub mod With
 pub mod Runs
 pub mod Bytes
 pub mod Held
