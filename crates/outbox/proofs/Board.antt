@@ -1,8 +1,8 @@
 -- The laws of the outbox, as a maintainer would write them on the board: about what the functions promise, for all rings, marks and
 -- messages. Assumes nothing.
-use mathlib.Core.Path.{_≡_, sym, ap, ap₂, _∙_}
+use mathlib.Core.Path.{_≡_, refl, sym, ap, ap₂, _∙_}
 use mathlib.Core.List.{List, [], _++_}
-use mathlib.Core.Bool.{true, false}
+use mathlib.Core.Bool.{Bool, true, false}
 use mathlib.Core.Logic.{_⊎_, inl, inr}
 use Prim.Native.Nat.{ℕ, _+_, _-_, _≤_, _<_}
 use native.Mathlib.Decide.{decLe}
@@ -10,14 +10,16 @@ use native.Mathlib.Omega.{arith}
 use lib.ListN.{length, take, drop, getD}
 use lib.Seq.{take-all, take-append-seam}
 use Rattle.octets.specs.Bytes.{part}
+use Rattle.octets.specs.Choice.{pick}
 use Rattle.answers.specs.declared.Answer.the-variants.{Done}
 use Rattle.outbox.specs.Outbox.{Marks, ringGood, freeBytes, held, messagePlace, putAnswer, putRing, putMarks, readRun, releaseAnswer, releaseMarks}
+use Rattle.outbox.specs.Place.{readPlace}
 use Rattle.outbox.proofs.Lists.{take-taken}
 use Rattle.outbox.proofs.Right.{right, good-with, good-without}
 use Rattle.outbox.proofs.Guards as guards
 use Rattle.outbox.proofs.With.{Fits, fits-free, length-with}
 use Rattle.outbox.proofs.Bytes.{byte-of-message, byte-elsewhere}
-use Rattle.outbox.proofs.Held.{length-held, held-with, held-without, run-is, run-and-rest, length-run}
+use Rattle.outbox.proofs.Held.{length-held, held-with, held-without, run-and-rest, length-run}
 
 -- ---- holding
 
@@ -87,12 +89,27 @@ pub wrong-reads-nothing : (ring : List ℕ) (m : Marks) → ringGood (length rin
 unfolding readRun
 wrong-reads-nothing ring m wrong = simp wrong
 
-module _ (ring : List ℕ) (m : Marks) (ok : ringGood (length ring) m ≡ true) where
-  -- What is read is unbroken: bytes of the ring, one behind the other, from the read place on.
-  pub read-is-unbroken : readRun ring m ≡ part ring (m .at) (length (readRun ring m))
-  read-is-unbroken = rw (run-is ring m ok) (sym (take-taken (m .held) (drop (m .at) ring)))
+module _ (ring : List ℕ) (m : Marks) where
+  -- What is read is a part of the ring: its bytes from one place on, one behind the other,
+  pub read-is-part : readRun ring m ≡ part ring (readPlace (length ring) m) (length (readRun ring m))
+  unfolding readRun readPlace
+  read-is-part = go (ringGood (length ring) m)
+    where
+      go : (b : Bool) → pick b (take (m .held) (drop (m .at) ring)) [] ≡ part ring (pick b (m .at) 0) (length (pick b (take (m .held) (drop (m .at) ring)) []))
+      go true = sym (take-taken (m .held) (drop (m .at) ring))
+      go false = refl
 
-  -- It is a beginning of what is held,
+  -- up to the ring's end at most.
+  pub read-is-within : readPlace (length ring) m + length (readRun ring m) ≤ length ring
+  unfolding readPlace
+  read-is-within = go (ringGood (length ring) m) refl
+    where
+      go : (b : Bool) → ringGood (length ring) m ≡ b → pick b (m .at) 0 + length (readRun ring m) ≤ length ring
+      go true ok = omega (arith, right (length ring) m ok, length-run ring m ok)
+      go false wrong = rw (wrong-reads-nothing ring m wrong) (omega arith)
+
+module _ (ring : List ℕ) (m : Marks) (ok : ringGood (length ring) m ≡ true) where
+  -- What is read is a beginning of what is held,
   pub read-is-prefix : take (length (readRun ring m)) (held ring m) ≡ readRun ring m
   read-is-prefix = ap (take (length (readRun ring m))) (run-and-rest ring m ok) ∙ take-append-seam (readRun ring m) _
 

@@ -41,7 +41,7 @@ module _ (ring : List ℕ) (m : Marks) (ok : ringGood (length ring) m ≡ true) 
       ∙ sym (drop-take k (m .held) (from (m .at) ring) enough (omega (arith, r, seen)))
 
   -- the run that a read hands back, and what is held beyond the ring's end
-  pub run-is : readRun ring m ≡ take (m .held) (drop (m .at) ring)
+  run-is : readRun ring m ≡ take (m .held) (drop (m .at) ring)
   unfolding readRun
   run-is = simp ok
 

@@ -62,7 +62,7 @@ messagePlace n m j = around n (m .at + (m .held + j))
 
 -- the count grows by its length
 unfoldable pub marksWith : Marks → ℕ → Marks
-marksWith m n = record { at = m .at; held = m .held + n }
+marksWith m size = record { at = m .at; held = m .held + size }
 
 -- ---- read
 
