@@ -1,29 +1,19 @@
 -- Every single byte of a ring after a put: the message's bytes stand at the message's places, and at no other place anything changed.
 -- Assumes nothing.
-use mathlib.Core.Path.{_≡_, refl, sym, ap, _∙_}
+use mathlib.Core.Path.{_≡_, sym, ap, _∙_}
 use mathlib.Core.List.{List}
-use mathlib.Core.Logic.{_⊎_, ⊎-elim, inl, inr}
+use mathlib.Core.Logic.{_⊎_, inl, inr}
 use Prim.Native.Nat.{ℕ, _+_, _-_, _≤_, _<_}
 use native.Mathlib.Decide.{decLt}
 use native.Mathlib.Omega.{arith}
 use lib.ListN.{length, getD}
 use lib.Seq.{getD-take, getD-drop}
-use Rattle.octets.specs.Bytes.{part, put}
-use Rattle.octets.proofs.Laws.{byte-part, part-put-same, part-put-before, part-put-after}
-use Rattle.outbox.specs.Outbox.{Marks, around, from, ringWith}
-use Rattle.outbox.proofs.Ring.{length-from, byte-around, around-below, around-back}
-use Rattle.outbox.proofs.Runs.{Fits, from-with, length-with}
-
--- the place of the message's j-th byte
-abbrev pub placeOf : ℕ → Marks → ℕ → ℕ
-placeOf n m j = around n (m .at + (m .held + j))
-
--- the byte at k of a list in which something was put elsewhere
-put-elsewhere : (xs : List ℕ) (at : ℕ) (ys : List ℕ) (k : ℕ) → at + length ys ≤ length xs → (k < at) ⊎ (at + length ys ≤ k) → getD (put xs at ys) k 0 ≡ getD xs k 0
-put-elsewhere xs at ys k fits away =
-    sym (byte-part (put xs at ys) k)
-    ∙ ap (λ (l : List ℕ). getD l 0 0) (⊎-elim (λ h. part-put-before xs at ys fits k 1 (omega arith)) (λ h. part-put-after xs at ys fits k 1 h) away)
-    ∙ byte-part xs k
+use Rattle.octets.specs.Bytes.{put}
+use Rattle.octets.proofs.Laws.{part-put-same}
+use Rattle.outbox.specs.Outbox.{Marks, around, from, ringWith, messagePlace}
+use Rattle.outbox.proofs.Lists.{byte-spared}
+use Rattle.outbox.proofs.Ring.{byte-around, around-below, around-back}
+use Rattle.outbox.proofs.With.{Fits, seen, from-with, length-with}
 
 -- a number that is none of the size numbers from h on lies before or behind them
 outside : (j h size : ℕ) → ((d : ℕ) → d < size → j ≡ h + d → ⊥) → (j < h) ⊎ (h + size ≤ j)
@@ -37,9 +27,6 @@ outside j h size away =
     ]
 
 module _ (ring : List ℕ) (m : Marks) (message : List ℕ) (fits : Fits ring m message) where
-  seen : length (from (m .at) ring) ≡ length ring
-  seen = length-from (m .at) ring (omega arith)
-
   -- the j-th byte from the read place on, after the put
   after : (j : ℕ) → j < length ring → getD (ringWith ring m message) (around (length ring) (m .at + j)) 0 ≡ getD (put (from (m .at) ring) (m .held) message) j 0
   after j h =
@@ -48,14 +35,14 @@ module _ (ring : List ℕ) (m : Marks) (message : List ℕ) (fits : Fits ring m 
       ∙ byte-around (m .at) j (ringWith ring m message) (omega arith) (omega arith)
       ∙ ap (λ (l : List ℕ). getD l j 0) (from-with ring m message fits)
 
-  pub byte-of-message : (j : ℕ) → j < length message → getD (ringWith ring m message) (placeOf (length ring) m j) 0 ≡ getD message j 0
+  pub byte-of-message : (j : ℕ) → j < length message → getD (ringWith ring m message) (messagePlace (length ring) m j) 0 ≡ getD message j 0
   byte-of-message j h =
       let l = put (from (m .at) ring) (m .held) message in
       after (m .held + j) (omega arith)
       ∙ sym (getD-take (length message) _ j 0 h ∙ getD-drop (m .held) l j 0)
-      ∙ ap (λ (x : List ℕ). getD x j 0) (part-put-same (from (m .at) ring) (m .held) message (omega (arith, seen)))
+      ∙ ap (λ (x : List ℕ). getD x j 0) (part-put-same (from (m .at) ring) (m .held) message (omega (arith, seen ring m message fits)))
 
-  pub byte-elsewhere : (i : ℕ) → i < length ring → ((j : ℕ) → j < length message → i ≡ placeOf (length ring) m j → ⊥)
+  pub byte-elsewhere : (i : ℕ) → i < length ring → ((j : ℕ) → j < length message → i ≡ messagePlace (length ring) m j → ⊥)
       → getD (ringWith ring m message) i 0 ≡ getD ring i 0
   byte-elsewhere i hi away =
       let n = length ring in
@@ -64,7 +51,7 @@ module _ (ring : List ℕ) (m : Marks) (message : List ℕ) (fits : Fits ring m 
       let e : around n (m .at + j) ≡ i = around-back n (m .at) i (fits .place) hi in
       ap (λ (k : ℕ). getD (ringWith ring m message) k 0) (sym e)
       ∙ after j hj
-      ∙ put-elsewhere (from (m .at) ring) (m .held) message j (omega (arith, seen))
+      ∙ byte-spared (from (m .at) ring) (m .held) message j (omega (arith, seen ring m message fits))
       (outside j (m .held) (length message) (λ d hd q. away d hd (sym e ∙ ap (λ (k : ℕ). around n (m .at + k)) q)))
       ∙ sym (byte-around (m .at) j ring (omega arith) hj)
       ∙ ap (λ (k : ℕ). getD ring k 0) e

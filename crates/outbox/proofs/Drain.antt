@@ -3,21 +3,23 @@ use mathlib.Core.Path.{_≡_, refl, sym, ap, ap₂, _∙_}
 use mathlib.Core.List.{List, [], _++_}
 use mathlib.Core.Bool.{true}
 use mathlib.Core.Logic.{⊎-elim}
-use Prim.Native.Nat.{ℕ, zero, suc, _+_, _-_, _≤_, _<_}
+use Prim.Native.Nat.{ℕ, zero, suc, _+_, _-_, _≤_}
 use native.Mathlib.Omega.{arith}
-use lib.ListN.{length, take, drop, take-append-drop}
+use lib.ListN.{length, take, take-append-drop}
 use lib.Seq.{take-nil}
 use borrow.Author.Tests.{le-ltb}
 use Rattle.answers.specs.declared.Answer.the-variants.{Done}
-use Rattle.outbox.specs.Outbox.{Marks, ringGood, around, held, readRun, releaseAnswer, releaseMarks, marksWithout}
+use Rattle.outbox.specs.Outbox.{Marks, ringGood, around, held, readRun, releaseAnswer, marksWithout}
 use Rattle.outbox.specs.Drain.{afterRound, drained}
 use Rattle.outbox.proofs.Right.{right}
-use Rattle.outbox.proofs.Board.{held-count, read-length, read-is-prefix, read-is-longest, held-is-enough, released-are, release-drops, release-keeps-good}
+use Rattle.outbox.proofs.Guards.{release-marks-done}
+use Rattle.outbox.proofs.Held.{length-run}
+use Rattle.outbox.proofs.Board.{held-count, read-is-prefix, read-stops, held-is-enough, release-drops, release-keeps-good}
 
 module _ (ring : List ℕ) (m : Marks) (ok : ringGood (length ring) m ≡ true) where
   -- what was read can be released
   released : releaseAnswer (length ring) m (length (readRun ring m)) ≡ Done
-  released = held-is-enough (length ring) m (length (readRun ring m)) ok (omega (arith, read-length ring m ok))
+  released = held-is-enough (length ring) m (length (readRun ring m)) ok (omega (arith, length-run ring m ok))
 
   round-good : ringGood (length ring) (afterRound ring m) ≡ true
   unfolding afterRound
@@ -32,11 +34,11 @@ module _ (ring : List ℕ) (m : Marks) (ok : ringGood (length ring) m ≡ true) 
 
   next-held : afterRound ring m .held ≡ m .held - length (readRun ring m)
   unfolding afterRound marksWithout
-  next-held = ap (λ (k : Marks). k .held) (released-are (length ring) m (length (readRun ring m)) released)
+  next-held = ap (λ (k : Marks). k .held) (release-marks-done (length ring) m (length (readRun ring m)) released)
 
   next-place : afterRound ring m .at ≡ around (length ring) (m .at + length (readRun ring m))
   unfolding afterRound marksWithout
-  next-place = ap (λ (k : Marks). k .at) (released-are (length ring) m (length (readRun ring m)) released)
+  next-place = ap (λ (k : Marks). k .at) (release-marks-done (length ring) m (length (readRun ring m)) released)
 
 -- an outbox that holds nothing: no round brings anything out
 nothing-held : (ring : List ℕ) (m : Marks) → m .held ≡ 0 → held ring m ≡ []
@@ -53,7 +55,7 @@ drained-nothing (suc rounds) ring m ok empty =
 
 -- a run from the ring's start on is all that is held
 start-reads-all : (ring : List ℕ) (m : Marks) → ringGood (length ring) m ≡ true → m .at ≡ 0 → length (readRun ring m) ≡ m .held
-start-reads-all ring m ok start = let r = right (length ring) m ok in omega (arith, read-length ring m ok)
+start-reads-all ring m ok start = let r = right (length ring) m ok in omega (arith, length-run ring m ok)
 
 -- two rounds leave nothing: the first reaches the last held byte or the ring's end, and the second, from the ring's start on, the rest
 pub two-rounds : (ring : List ℕ) (m : Marks) → ringGood (length ring) m ≡ true → afterRound ring (afterRound ring m) .held ≡ 0
@@ -66,7 +68,7 @@ two-rounds ring m ok =
     let past : length ring ≤ m .at + length (readRun ring m) = omega arith in
     let start : next .at ≡ 0 = next-place ring m ok ∙ simp (le-ltb _ _ past) (omega (arith, end)) in
     omega (arith, next-held ring next good, start-reads-all ring next good start))
-    (read-is-longest ring m ok)
+    (read-stops ring m ok)
 
 -- every held byte, in order, once
 pub drained-is-held : (rounds : ℕ) (ring : List ℕ) (m : Marks) → ringGood (length ring) m ≡ true → drained (suc (suc rounds)) ring m ≡ held ring m

@@ -1,40 +1,17 @@
--- What becomes of the held bytes, and of right marks, when a message goes in and when bytes are given up. Assumes nothing.
-use mathlib.Core.Path.{_≡_, refl, sym, ap, _∙_}
+-- What becomes of the held bytes when a message goes in and when bytes are given up, and how much of them one run is. Assumes nothing.
+use mathlib.Core.Path.{_≡_, sym, ap, _∙_}
 use mathlib.Core.List.{List, _++_}
 use mathlib.Core.Bool.{true}
-use Prim.Native.Nat.{ℕ, _+_, _-_, _≤_, _<_}
+use Prim.Native.Nat.{ℕ, _+_, _-_, _≤_, min}
 use native.Mathlib.Omega.{arith}
-use lib.ListN.{length, take, drop, length-append, length-drop}
-use lib.Seq.{length-take-le, take-at, drop-at, take-append-le, take-add}
-use Rattle.octets.specs.Bytes.{put}
+use lib.ListN.{length, take, drop, length-take, length-drop}
+use lib.Seq.{length-take-le, take-append-le}
 use Rattle.octets.proofs.Laws.{take-put}
-use Rattle.outbox.specs.Outbox.{Marks, ringGood, freeBytes, around, from, held, ringWith, marksWith, marksWithout}
-use Rattle.outbox.proofs.Right.{Right, right, good}
-use Rattle.outbox.proofs.Ring.{length-from, from-around, around-below}
-use Rattle.outbox.proofs.Runs.{fits-free, from-with}
-
--- what follows the first j of a list's first h
-drop-take : (j h : ℕ) (l : List ℕ) → j ≤ h → h ≤ length l → drop j (take h l) ≡ take (h - j) (drop j l)
-drop-take j h l jh hl =
-    let q : h ≡ j + (h - j) = omega arith in
-    ap (λ (n : ℕ). drop j (take n l)) q
-    ∙ ap (drop j) (take-add j (h - j) l)
-    ∙ drop-at (take j l) (take (h - j) (drop j l)) j (length-take-le j l (omega arith))
-
--- right marks stay right
-module _ (n : ℕ) (m : Marks) (ok : ringGood n m ≡ true) (size : ℕ) where
-  pub good-with : size ≤ freeBytes n m → ringGood n (marksWith m size) ≡ true
-  unfolding marksWith freeBytes
-  good-with room =
-      let r = right n m ok in
-      good n (marksWith m size) (record { short = r .short; long = r .long; place = r .place; count = omega arith })
-
-  pub good-without : size ≤ m .held → ringGood n (marksWithout n m size) ≡ true
-  unfolding marksWithout
-  good-without enough =
-      let r = right n m ok in
-      good n (marksWithout n m size)
-      (record { short = r .short; long = r .long; place = around-below n (m .at + size) (omega arith); count = omega arith })
+use Rattle.outbox.specs.Outbox.{Marks, ringGood, freeBytes, from, held, ringWith, marksWith, marksWithout, readRun}
+use Rattle.outbox.proofs.Lists.{drop-take, take-both}
+use Rattle.outbox.proofs.Ring.{length-from, from-around}
+use Rattle.outbox.proofs.Right.{Right, right}
+use Rattle.outbox.proofs.With.{fits-free, from-with}
 
 module _ (ring : List ℕ) (m : Marks) (ok : ringGood (length ring) m ≡ true) where
   r : Right (length ring) m
@@ -47,18 +24,30 @@ module _ (ring : List ℕ) (m : Marks) (ok : ringGood (length ring) m ≡ true) 
   unfolding held
   length-held = length-take-le (m .held) (from (m .at) ring) (omega (arith, r, seen))
 
-  module _ (message : List ℕ) (room : length message ≤ freeBytes (length ring) m) where
-    pub held-with : held (ringWith ring m message) (marksWith m (length message)) ≡ held ring m ++ message
-    unfolding held marksWith freeBytes
-    held-with =
-        ap (take (m .held + length message)) (from-with ring m message (fits-free ring m message ok room))
-        ∙ take-put (from (m .at) ring) (m .held) message (omega (arith, r, seen))
+  -- a message that has room goes behind them
+  pub held-with : (message : List ℕ) → length message ≤ freeBytes (length ring) m → held (ringWith ring m message) (marksWith m (length message)) ≡ held ring m ++ message
+  unfolding held marksWith freeBytes
+  held-with message room =
+      ap (take (m .held + length message)) (from-with ring m message (fits-free ring m message ok room))
+      ∙ take-put (from (m .at) ring) (m .held) message (omega (arith, r, seen))
 
-  module _ (k : ℕ) (enough : k ≤ m .held) where
-    pub held-without : held ring (marksWithout (length ring) m k) ≡ drop k (held ring m)
-    unfolding held from marksWithout
-    held-without =
-        let rest : m .held - k ≤ length (drop k (from (m .at) ring)) = rw length-drop (omega (arith, r, seen)) in
-        ap (take (m .held - k)) (from-around (m .at) k ring (omega (arith, r)) (omega (arith, r)))
-        ∙ take-append-le (m .held - k) (drop k (from (m .at) ring)) (take k (from (m .at) ring)) rest
-        ∙ sym (drop-take k (m .held) (from (m .at) ring) enough (omega (arith, r, seen)))
+  -- the first k are gone
+  pub held-without : (k : ℕ) → k ≤ m .held → held ring (marksWithout (length ring) m k) ≡ drop k (held ring m)
+  unfolding held from marksWithout
+  held-without k enough =
+      let rest : m .held - k ≤ length (drop k (from (m .at) ring)) = rw length-drop (omega (arith, r, seen)) in
+      ap (take (m .held - k)) (from-around (m .at) k ring (omega (arith, r)) (omega (arith, r)))
+      ∙ take-append-le (m .held - k) (drop k (from (m .at) ring)) (take k (from (m .at) ring)) rest
+      ∙ sym (drop-take k (m .held) (from (m .at) ring) enough (omega (arith, r, seen)))
+
+  -- the run that a read hands back, and what is held beyond the ring's end
+  run-is : readRun ring m ≡ take (m .held) (drop (m .at) ring)
+  unfolding readRun
+  run-is = simp ok
+
+  pub run-and-rest : held ring m ≡ readRun ring m ++ take (m .held - length (drop (m .at) ring)) (take (m .at) ring)
+  unfolding held from
+  run-and-rest = rw run-is (take-both (m .held) (drop (m .at) ring) (take (m .at) ring))
+
+  pub length-run : length (readRun ring m) ≡ min (m .held) (length ring - m .at)
+  length-run = ap length run-is ∙ length-take (m .held) (drop (m .at) ring) ∙ ap (min (m .held)) (length-drop (m .at) ring)

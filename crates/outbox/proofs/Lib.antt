@@ -2,6 +2,11 @@ pub mod Opened
 pub mod Ring
 pub mod Right
 pub mod Guards
+pub mod Lists
+pub mod Ring
+pub mod Right
+pub mod Guards
+pub mod With
 pub mod Runs
 pub mod Bytes
 pub mod Held

@@ -1,5 +1,5 @@
--- A ring seen from a place on, around its end. That a place wraps is used in one law alone, `from-around`; what is said of a byte and
--- of a store follows from it, for rings of every length. Assumes nothing.
+-- A ring seen from a place on, around its end. Wrapping is proved here and nowhere else: three facts about places, and one law about
+-- rings of every length, `from-around`. What is said of a byte and of a store follows from that law. Assumes nothing.
 use mathlib.Core.Path.{_≡_, refl, sym, ap, _∙_}
 use mathlib.Core.List.{List, _++_, append-assoc}
 use mathlib.Core.Bool.{Bool, true, false}

@@ -1,6 +1,6 @@
--- A message that goes behind the held bytes is written in two runs, up to the ring's end and from its start. Assumes nothing.
+-- Two unbroken runs, up to the ring's end and from its start, put a message behind the held bytes. Assumes nothing.
 use mathlib.Core.Path.{_≡_, refl, sym, ap, ap₂, _∙_}
-use mathlib.Core.List.{List, [], _++_}
+use mathlib.Core.List.{List}
 use mathlib.Core.Bool.{Bool, true, false}
 use Prim.Native.Nat.{ℕ, _+_, _-_, _≤_, _<_}
 use native.Mathlib.Omega.{arith}
@@ -9,52 +9,20 @@ use lib.ListN.{length, take, drop, length-drop, take-append-drop, drop-of-length
 use lib.Seq.{length-take-le, take-all}
 use borrow.Author.Tests.{leb-true, leb-false}
 use Rattle.octets.specs.Bytes.{put}
-use Rattle.octets.proofs.Laws.{length-put, put-put, put-none}
-use Rattle.outbox.specs.Outbox.{Marks, ringGood, freeBytes, around, from, back, held, ringWith, marksWith}
+use Rattle.octets.proofs.Laws.{length-put, put-none}
+use Rattle.outbox.specs.Outbox.{Marks, around, back, held, ringWith, marksWith}
 use Rattle.outbox.specs.Runs.{inTwoRuns}
-use Rattle.outbox.proofs.Right.{right}
-use Rattle.outbox.proofs.Ring.{length-from, length-back, back-from, from-back, put-around, around-below, around-end}
+use Rattle.outbox.proofs.Ring.{back-from, put-around, around-below, around-end}
+use Rattle.outbox.proofs.With.{Fits, length-with, with-pieces}
 
--- the message has a place in the ring: what every law about a put asks
-pub record Fits (ring : List ℕ) (m : Marks) (message : List ℕ) : Type 0 where
-  pub place : m .at < length ring
-  pub room : m .held + length message ≤ length ring
-
-pub fits-free : (ring : List ℕ) (m : Marks) (message : List ℕ) → ringGood (length ring) m ≡ true → length message ≤ freeBytes (length ring) m → Fits ring m message
-unfolding freeBytes
-fits-free ring m message good room = let r = right (length ring) m good in record { place = r .place; room = omega arith }
-
-module _ (ring : List ℕ) (m : Marks) (message : List ℕ) (fits : Fits ring m message) where
-  seen : length (from (m .at) ring) ≡ length ring
-  seen = length-from (m .at) ring (omega arith)
-
-  pub length-seen-with : length (put (from (m .at) ring) (m .held) message) ≡ length ring
-  length-seen-with = length-put (from (m .at) ring) (m .held) message (omega (arith, seen)) ∙ seen
-
-  pub length-with : length (ringWith ring m message) ≡ length ring
-  unfolding ringWith held
-  length-with = length-back (m .at) (put (from (m .at) ring) (m .held) message) ∙ length-seen-with
-
-  -- what is seen from the read place afterwards: the held bytes, the message, and what was behind it
-  pub from-with : from (m .at) (ringWith ring m message) ≡ put (from (m .at) ring) (m .held) message
-  unfolding ringWith held
-  from-with = from-back (m .at) (put (from (m .at) ring) (m .held) message) (omega (arith, length-seen-with))
-
-  -- a message that doesn't reach past the ring's end is one run
-  pub with-straight : around (length ring) (m .at + m .held) + length message ≤ length ring → ringWith ring m message ≡ put ring (around (length ring) (m .at + m .held)) message
-  unfolding ringWith held
-  with-straight h =
-      let p = around (length ring) (m .at + m .held) in
-      sym (ap (back (m .at)) (put-around (m .at) (m .held) ring (omega arith) message (omega arith) h))
-      ∙ back-from (m .at) (put ring p message) (omega (arith, length-put ring p message h))
-
--- a message in two pieces is two messages
-pub with-pieces : (ring : List ℕ) (m : Marks) (x y : List ℕ) → Fits ring m x → m .held + length x + length y ≤ length ring
-    → ringWith ring m (x ++ y) ≡ ringWith (ringWith ring m x) (marksWith m (length x)) y
-unfolding ringWith held marksWith
-with-pieces ring m x y fits h =
-    sym (ap (λ (l : List ℕ). back (m .at) (put l (m .held + length x) y)) (from-with ring m x fits)
-    ∙ ap (back (m .at)) (put-put (from (m .at) ring) (m .held) x y (omega (arith, seen ring m x fits))))
+-- a message that doesn't reach past the ring's end is one run
+pub with-straight : (ring : List ℕ) (m : Marks) (message : List ℕ) → Fits ring m message → around (length ring) (m .at + m .held) + length message ≤ length ring
+    → ringWith ring m message ≡ put ring (around (length ring) (m .at + m .held)) message
+unfolding ringWith held
+with-straight ring m message fits h =
+    let p = around (length ring) (m .at + m .held) in
+    sym (ap (back (m .at)) (put-around (m .at) (m .held) ring (omega arith) message (omega arith) h))
+    ∙ back-from (m .at) (put ring p message) (omega (arith, length-put ring p message h))
 
 -- where the first run takes all of the message, nothing is left for the second
 pub one-run : (ring : List ℕ) (place : ℕ) (message : List ℕ) → length message ≤ length ring - place → put ring place message ≡ inTwoRuns ring place message
@@ -72,6 +40,7 @@ then-rest ring place message first all e f =
     f
     ∙ ap₂ (λ (l y : List ℕ). put l 0 y) e (take-all (length message - toEnd) (drop toEnd message) (omega (arith, length-drop toEnd message)))
 
+-- the first run ends where the ring ends, so the second begins where the ring begins
 pub two-runs : (ring : List ℕ) (m : Marks) (message : List ℕ) → Fits ring m message → ringWith ring m message ≡ inTwoRuns ring (around (length ring) (m .at + m .held)) message
 unfolding inTwoRuns marksWith
 two-runs ring m message fits = go (leb (length message) toEnd) refl

@@ -10,7 +10,7 @@ use prog.Wp.{Heap}
 use ghost.Atoms.{Atoms}
 use contract.Lifetimes.{Lfts}
 use contract.Monad.{Fun, fact}
-use denote.Ref.{RefT, now, ptr}
+use denote.Ref.{now, ptr}
 use denote.Triple.Entry.{Args, Res}
 use denote.Triple.Clauses.{AtExit}
 use Rattle.answers.specs.declared.Answer.{Answer}
@@ -44,7 +44,7 @@ put-unique κs a z z′ e e′ p p′ = both p p′
 pub append-unique : (κs : Lfts 2) (a : _) → Settles {X = Marks × List ℕ} (append.Post κs a) (λ z e. (z, now (e .0)))
 append-unique κs a z z′ e e′ p p′ = both p p′
 
--- of a part: its bytes, and where in memory they stand
+-- Of a part a program sees its bytes and the address at which they stand; the logic's own name for the loan it can't see.
 pub read-unique : (κs : Lfts 1) (a : _) → Settles {X = List ℕ × (ℕ × ℕ)} (read.Post κs a) (λ z e. (now z, ptr z))
 read-unique κs a z z′ e e′ p p′ = both p p′
 

@@ -1,5 +1,5 @@
 -- The outbox: a ring seen from its read place (Table and outbox).
-use Prim.Native.Nat.{ℕ, zero, suc, _+_, _-_}
+use Prim.Native.Nat.{ℕ, _+_, _-_}
 use mathlib.Core.Bool.{Bool, not}
 use mathlib.Core.List.{List, [], _∷_, _++_}
 use lib.ListN.{length, take, drop}
@@ -56,9 +56,13 @@ unfoldable pub ringWith : List ℕ → Marks → List ℕ → List ℕ
 ringWith ring m message =
     back (m .at) (held ring m ++ (message ++ drop (m .held + length message) (from (m .at) ring)))
 
+-- the place of the message's j-th byte
+abbrev pub messagePlace : ℕ → Marks → ℕ → ℕ
+messagePlace n m j = around n (m .at + (m .held + j))
+
 -- the count grows by its length
 unfoldable pub marksWith : Marks → ℕ → Marks
-marksWith m n = record { at = m .at; held = m .held + n }
+marksWith m size = record { at = m .at; held = m .held + size }
 
 -- ---- read
 

@@ -4,6 +4,7 @@ ghost use mathlib.Core.Path.{_≡_};
 ghost use Rattle.outbox.specs.Outbox.{ringGood, around, unmoved};
 
 pub const SHORTEST_RING: usize = 80;
+
 pub const LONGEST_RING: usize = 65_536;
 
 pub struct Marks {

@@ -48,7 +48,7 @@ pub fn append(ring: &mut [u8], marks: Marks, message: &[u8]) -> Marks
     }
 }
 
-// Two unbroken copies, up to the ring's end and from its start: a test for the end at each byte costs ten times as much.
+// Two unbroken copies, up to the ring's end and from its start, so that no byte has to be tested for the end.
 fn copy_around(ring: &mut [u8], place: usize, message: &[u8])
     requires { ⌜ (place ≤ length (now ring)) × (length (now message) ≤ length (now ring)) ⌝ }
     ensures { λ _. ⌜ now (ring .exit) ≡ inTwoRuns (now (ring .entry)) place (now (message .entry)) ⌝ }

@@ -7,6 +7,7 @@ ghost use denote.Ref.{ptr};
 ghost use Rattle.outbox.specs.Outbox.{readRun};
 ghost use Rattle.outbox.specs.Place.{readPlace, onBy};
 
+// The promise gives the part's bytes and its address, `ptr`: it is the caller's own memory, and nothing was copied.
 pub fn read(ring: &[u8], marks: Marks) -> &[u8]
     ensures { λ r. ⌜ (now r ≡ readRun (now (ring .entry)) marks) × (ptr r ≡ onBy (readPlace (length (now (ring .entry))) marks) (ptr (ring .entry))) ⌝ }
 {

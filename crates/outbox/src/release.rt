@@ -30,7 +30,7 @@ pub fn release(n: usize, marks: Marks, k: usize) -> Moved
     }
 }
 
-// What a release answers, and the marks that it leaves: `release` taken apart, so that the lender below is two whole copies.
+// `release` taken apart, for the function below: what it answers, and the marks that it leaves.
 fn release_answer(n: usize, marks: Marks, k: usize) -> Answer
     ensures { λ r. ⌜ r ≡ releaseAnswer n marks k ⌝ }
 {
@@ -45,7 +45,7 @@ fn release_marks(n: usize, marks: Marks, k: usize) -> Marks
     moved.marks
 }
 
-// The same release over marks that the caller lends: they are moved where they stand.
+// The same over marks that the caller lends. Proofs about lent structs are made by hand, so it copies whole marks and does nothing else.
 pub fn release_in_place(n: usize, marks: &mut Marks, k: usize) -> Answer
     ensures { λ r. ⌜ (r ≡ releaseAnswer n (now (marks .entry)) k) × (now (marks .exit) ≡ releaseMarks n (now (marks .entry)) k) ⌝ }
 {

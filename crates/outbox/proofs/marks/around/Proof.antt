@@ -1,3 +1,4 @@
+-- The test of the code is the test of the definition. Assumes nothing.
 use native.Mathlib.Omega.{arith}
 use borrow.Author.Tests.{lt-ltb, le-ltb}
 use Rattle.outbox.proofs.marks.around.Statement.{statement}

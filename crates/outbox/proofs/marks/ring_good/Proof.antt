@@ -1,6 +1,5 @@
 -- At each return the tests that led there are the tests of the definition. Assumes nothing.
 use borrow.Author.Tests.{lt-ltb, le-ltb, le-leb, lt-leb}
-use mathlib.Core.Path.{sym}
 use mathlib.Core.Bool.{and-true}
 use Rattle.outbox.specs.Outbox.{ringGood}
 use Rattle.outbox.proofs.marks.ring_good.Statement.{statement}

@@ -1,5 +1,5 @@
 -- The place behind the held bytes is computed once; a put is the two runs from there on. Assumes nothing.
-use mathlib.Core.Path.{_≡_, refl, sym, ap, _∙_}
+use mathlib.Core.Path.{refl, sym, ap, _∙_}
 use Prim.Native.Nat.{ℕ, _+_, _<_}
 use native.Mathlib.Omega.{arith}
 use lib.ListN.{length}
@@ -9,13 +9,10 @@ use Rattle.outbox.specs.Outbox.{marksWith, freeBytes}
 use Rattle.outbox.specs.Runs.{inTwoRuns}
 use Rattle.outbox.proofs.Right.{right}
 use Rattle.outbox.proofs.Ring.{around-below}
-use Rattle.outbox.proofs.Runs.{Fits, fits-free, two-runs}
+use Rattle.outbox.proofs.With.{fits-free}
+use Rattle.outbox.proofs.Runs.{two-runs}
 use Rattle.outbox.proofs.put.append.Statement.{statement}
 use Rattle.outbox.proofs.put.append.Tie as tie
-use Rattle.outbox.proofs.put.append.Reads as reads
-use Rattle.outbox.proofs.put.append.Lts as lts
-use Rattle.outbox.proofs.marks.around.Reads as around-reads
-use Rattle.outbox.proofs.put.copy_around.Reads as copy-around-reads
 
 add-around : tie.Need-add-around
 add-around c = omega (arith, right _ _ (c .before .before .pre .0))

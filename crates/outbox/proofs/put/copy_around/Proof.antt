@@ -1,17 +1,13 @@
 -- Each branch does what its copies promise: one run where the message reaches no further than the end, two where it does.
 -- Assumes nothing.
-use mathlib.Core.Path.{_≡_, _∙_, ap}
+use mathlib.Core.Path.{_∙_}
 use native.Mathlib.Omega.{arith}
-use lib.ListN.{length, take, length-take}
+use lib.ListN.{length-take}
 use denote.Ref.{now}
 use borrow.Author.Needs.{needs}
-use Rattle.outbox.specs.Runs.{inTwoRuns}
 use Rattle.outbox.proofs.Runs.{one-run, then-rest}
 use Rattle.outbox.proofs.put.copy_around.Statement.{statement}
 use Rattle.outbox.proofs.put.copy_around.Tie as tie
-use Rattle.outbox.proofs.put.copy_around.Reads as reads
-use Rattle.outbox.proofs.put.copy_around.Lts as lts
-use Rattle.octets.proofs.put_bytes.Reads as put-bytes-reads
 
 sub-to-end : tie.Need-sub-to-end
 sub-to-end c = search needs

@@ -12,10 +12,6 @@ use Rattle.outbox.specs.Outbox.{Marks, ringGood, freeBytes, putAnswer, p
 use Rattle.outbox.proofs.Right.{right}
 use Rattle.outbox.proofs.put.put.Statement.{statement}
 use Rattle.outbox.proofs.put.put.Tie as tie
-use Rattle.outbox.proofs.put.put.Reads as reads
-use Rattle.outbox.proofs.put.put.Lts as lts
-use Rattle.outbox.proofs.marks.ring_good.Reads as ring-good-reads
-use Rattle.outbox.proofs.put.append.Reads as append-reads
 
 ring-good-requires : tie.Need-ring-good-requires
 ring-good-requires c κs = search needs

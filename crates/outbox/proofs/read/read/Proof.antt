@@ -13,9 +13,6 @@ use Rattle.outbox.specs.Place.{readPlace}
 use Rattle.outbox.proofs.Right.{right}
 use Rattle.outbox.proofs.read.read.Statement.{statement}
 use Rattle.outbox.proofs.read.read.Tie as tie
-use Rattle.outbox.proofs.read.read.Reads as reads
-use Rattle.outbox.proofs.read.read.Lts as lts
-use Rattle.outbox.proofs.marks.ring_good.Reads as ring-good-reads
 
 ring-good-requires : tie.Need-ring-good-requires
 ring-good-requires c κs = search needs

@@ -9,10 +9,6 @@ use Rattle.outbox.specs.Outbox.{ringGood, releaseAnswer, marksWithout, r
 use Rattle.outbox.proofs.Right.{right}
 use Rattle.outbox.proofs.release.release.Statement.{statement}
 use Rattle.outbox.proofs.release.release.Tie as tie
-use Rattle.outbox.proofs.release.release.Reads as reads
-use Rattle.outbox.proofs.release.release.Lts as lts
-use Rattle.outbox.proofs.marks.around.Reads as around-reads
-use Rattle.outbox.proofs.marks.ring_good.Reads as ring-good-reads
 
 ring-good-requires : tie.Need-ring-good-requires
 ring-good-requires c κs = search needs

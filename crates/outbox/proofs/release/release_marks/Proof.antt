@@ -1,3 +1,4 @@
+-- What `release` promises of its marks. Assumes nothing.
 use mathlib.Core.Path.{ap}
 use borrow.Author.Needs.{needs}
 use Rattle.outbox.specs.Outbox.{Moved}
