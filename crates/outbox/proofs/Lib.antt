@@ -3,9 +3,6 @@ pub mod Ring
 pub mod Right
 pub mod Guards
 pub mod Lists
-pub mod Ring
-pub mod Right
-pub mod Guards
 pub mod With
 pub mod Runs
 pub mod Bytes

@@ -3,7 +3,8 @@ use Rattle.wire.specs.Text.{capital, small, digit, tokenByte, capitalsTh
 use Rattle.wire.specs.Price.{goodPrice, pricedOf}
 use Rattle.wire.specs.Layout.{badTokenByte, nonZeroByte, badPlace, firstBadPlace, noBadPlace, layoutFor, spell, unbroken, wellLaid, gapsAreZero}
 use Rattle.wire.specs.Messages.{lengthFor, readAnswer, legalOrZeros, writeAnswer, written}
+use Rattle.wire.specs.Legal.{Obeys, BadByte}
 
 unfoldable pub opened : Unit {0}
-unfolding capital small digit tokenByte capitalsThenSpaces shaped goodPrice pricedOf badTokenByte nonZeroByte badPlace firstBadPlace noBadPlace layoutFor spell unbroken wellLaid gapsAreZero lengthFor readAnswer legalOrZeros writeAnswer written
+unfolding capital small digit tokenByte capitalsThenSpaces shaped goodPrice pricedOf badTokenByte nonZeroByte badPlace firstBadPlace noBadPlace layoutFor spell unbroken wellLaid gapsAreZero lengthFor readAnswer legalOrZeros writeAnswer written Obeys BadByte
 opened = tt
