@@ -6,6 +6,7 @@ use mathlib.Core.Bool.{Bool, true, false, not}
 use mathlib.Core.List.{List, [], _∷_, _++_, append-assoc, append-nil}
 use Prim.Native.Nat.{ℕ, _≤_}
 use lib.ListN.{length, take, drop, take-append-drop}
+use native.Mathlib.Omega.{arith}
 use borrow.Author.Tests.{ltb-false}
 use Rattle.octets.specs.Choice.{_⇒_⨾_}
 use Rattle.octets.specs.Bytes.{joined}
@@ -14,10 +15,11 @@ use Rattle.answers.proofs.Laws.{is-done, not-done}
 use Rattle.table.specs.Table.{sound}
 use Rattle.tape.specs.Entries.{stampOf}
 use Rattle.rules.specs.Sent.{message}
-use Rattle.outbox.specs.Outbox.{ringGood, freeBytes, held, ringWith, marksWith, releaseAnswer, releaseMarks}
-use Rattle.outbox.proofs.Runs.{fits-free, length-with}
-use Rattle.outbox.proofs.Held.{good-with, held-with}
-use Rattle.outbox.proofs.Board.{refused-release, release-keeps-good, release-drops}
+use Rattle.outbox.specs.Outbox.{ringGood, freeBytes, held, marksWith, readRun, releaseAnswer, releaseMarks}
+use Rattle.outbox.proofs.With.{fits-free, length-with}
+use Rattle.outbox.proofs.Right.{good-with}
+use Rattle.outbox.proofs.Held.{held-with, length-held}
+use Rattle.outbox.proofs.Board.{refused-release-changes-nothing, release-keeps-good, release-drops, read-is-prefix}
 use Rattle.host.specs.Types.{Answer, Blocked, Done, Decision, Plan, Marks}
 use Rattle.host.specs.Step.{World, Stepped, comesTo, noRoom, settle, offer, step, tableAfter, worldAfter, unchanged}
 use Rattle.host.specs.Day.{Played, telling, playOn, unlimited, Action, offerNext, look, release, Ran, isBlocked, withMarks, givenUp, offered, run}
@@ -42,6 +44,13 @@ pub record Ready (w : World) : Type 0 where
 step-is-offer : (w : World) (s : List ℕ) → Ready w → step w s ≡ offer w s
 unfolding step
 step-is-offer w s ok = simp (ok .table, ok .ring)
+
+nothing : (l : List ℕ) → length l ≡ 0 → l ≡ []
+nothing [] h = refl
+nothing (b ∷ l) h = absurd (omega arith)
+
+nothing-held : (w : World) → Ready w → w .marks .held ≡ 0 → bytes w ≡ []
+nothing-held w ok none = nothing (bytes w) (length-held (w .ring) (w .marks) (ok .ring) ∙ none)
 
 -- ---- one message more
 
@@ -151,7 +160,7 @@ module _
           rw e (ap (λ (l : List ℕ). take k (bytes w) ++ l) (release-drops (w .ring) (w .marks) k a) ∙ take-append-drop k (bytes w)),
         )
     ready-lowered false e =
-        let m = refused-release (length (w .ring)) (w .marks) k (not-done (releaseAnswer (length (w .ring)) (w .marks) k) e) in
+        let m = refused-release-changes-nothing (length (w .ring)) (w .marks) k (not-done (releaseAnswer (length (w .ring)) (w .marks) k) e) in
         (
           record { table = ok .table; ring = ap (ringGood (length (w .ring))) m ∙ ok .ring },
           rw e (ap (held (w .ring)) m),
@@ -182,3 +191,52 @@ module _
   kept (release k ∷ todo) w ss ok = released-keeps w k ss (λ (w′ : World) (ss′ : List (List ℕ)). run w′ ss′ todo) ok (kept todo)
   kept (offerNext ∷ todo) w [] ok = kept todo w [] ok
   kept (offerNext ∷ todo) w (s ∷ ss) ok = offered-keeps w s ss (λ (w′ : World) (ss′ : List (List ℕ)). run w′ ss′ todo) ok (kept todo)
+
+  -- ---- demand 3, for a schedule that gets through the list
+
+  -- what a schedule that got through the entries comes to
+  pub record Streams (p : Played) (r : Ran) : Type 0 where
+    -- released bytes followed by held bytes are the messages that unlimited room would give
+    pub messages : r .released ++ bytes (r .world) ≡ joined (p .messages)
+    -- the other answers agree, in order
+    pub answers : r .answers ≡ p .answers
+    -- and so does the final table
+    pub table : r .world .table ≡ p .table
+
+  pub streams : (w : World) (ss : List (List ℕ)) (todo : List Action) → Ready w → w .marks .held ≡ 0 → run w ss todo .left ≡ []
+      → Streams (unlimited (w .table) ss) (run w ss todo)
+  unfolding unlimited joined
+  streams w ss todo ok none through =
+      let r = run w ss todo in
+      let k = kept todo w ss ok in
+      let end : unlimited (r .world .table) (r .left) ≡ record { answers = []; table = r .world .table; messages = [] } =
+      ap (unlimited (r .world .table)) through in
+      let p = unlimited (w .table) ss in
+      record {
+        messages = ap (λ (l : List ℕ). r .released ++ l) (sym (append-nil (bytes (r .world))))
+            ∙ sym (ap (λ (q : Played). r .released ++ (bytes (r .world) ++ joined (q .messages))) end)
+            ∙ k .messages
+            ∙ ap (λ (l : List ℕ). l ++ joined (p .messages)) (nothing-held w ok none);
+        answers = sym (append-nil (r .answers)) ∙ sym (ap (λ (q : Played). r .answers ++ q .answers) end) ∙ k .answers;
+        table = sym (ap (λ (q : Played). q .table) end) ∙ k .table;
+      }
+
+  -- at any moment, what is read next is the next part of that stream: released bytes and then the run are its beginning
+  pub reads-on : (w : World) (ss : List (List ℕ)) (todo : List Action) → Ready w → w .marks .held ≡ 0
+      → (rest : List ℕ)
+      × (run w ss todo .released ++ (readRun (run w ss todo .world .ring) (run w ss todo .world .marks) ++ rest) ≡ joined (unlimited (w .table) ss .messages))
+  reads-on w ss todo ok none =
+      let r = run w ss todo in
+      let k = kept todo w ss ok in
+      let run′ = readRun (r .world .ring) (r .world .marks) in
+      let later = joined (unlimited (r .world .table) (r .left) .messages) in
+      let front : run′ ++ drop (length run′) (bytes (r .world)) ≡ bytes (r .world) =
+      ap (λ (l : List ℕ). l ++ drop (length run′) (bytes (r .world))) (sym (read-is-prefix (r .world .ring) (r .world .marks) (k .ready .ring)))
+      ∙ take-append-drop (length run′) (bytes (r .world)) in
+      (
+        drop (length run′) (bytes (r .world)) ++ later,
+        ap (λ (l : List ℕ). r .released ++ l)
+        (sym (append-assoc run′ (drop (length run′) (bytes (r .world))) later) ∙ ap (λ (l : List ℕ). l ++ later) front)
+        ∙ k .messages
+        ∙ ap (λ (l : List ℕ). l ++ joined (unlimited (w .table) ss .messages)) (nothing-held w ok none),
+      )
