@@ -4,17 +4,18 @@ use mathlib.Core.Path.{_≡_, refl, sym, ap, _∙_}
 use mathlib.Core.Bool.{true}
 use mathlib.Core.List.{List, _++_}
 use Prim.Native.Nat.{ℕ, _≤_}
-use lib.ListN.{length, take, drop}
+use lib.ListN.{length, take, drop, length-replicate}
 use lib.Seq.{take-at}
+use Rattle.octets.specs.Bytes.{zeros}
 use Rattle.answers.specs.Answer.{isDone, ifDone}
 use Rattle.answers.specs.declared.Answer.{Answer}
 use Rattle.answers.specs.declared.Answer.the-variants.{Done}
 use Rattle.wire.specs.Layout.{Layout, Values, Fits, FromFields, atOnce, reading, readFields, spell, wellLaid, gapsAreZero}
-use Rattle.wire.specs.Messages.{readAnswer, writeAnswer, written}
+use Rattle.wire.specs.Messages.{readAnswer, legalOrZeros, writeAnswer, written}
 use Rattle.wire.specs.Legal.{Bytes, Legal}
 use Rattle.wire.proofs.Layouts.{sized-all, length-spelled, values-again, message-again}
 use Rattle.wire.proofs.BadPlaces.{no-bad-place}
-use Rattle.wire.proofs.Exactly.{done-exactly}
+use Rattle.wire.proofs.Exactly.{Way, malformed, bad, done, way, done-exactly}
 
 -- a done writer leaves its bytes in front and the rest as it was
 pub in-front : (l : Layout) (m buffer : List ℕ) → writeAnswer l m buffer ≡ Done → written l m buffer ≡ m ++ drop (l .size) buffer
@@ -41,3 +42,21 @@ module _ (l : Layout) (well : wellLaid l ≡ true) where
 -- a promise that is an equation allows one result
 pub one-result : {A : Type 0} {promised r r′ : A} → r ≡ promised → r′ ≡ promised → r ≡ r′
 one-result e e′ = e ∙ sym e′
+
+-- the bytes that a reader takes its fields from are as many as its message has, legal or not
+legal-long : (l : Layout) (s : List ℕ) → length (legalOrZeros l s) ≡ l .size
+unfolding legalOrZeros ifDone isDone
+legal-long l s = go (way l s)
+  where
+    go : Way l s → length (legalOrZeros l s) ≡ l .size
+    go (malformed e h) = rw e (length-replicate (l .size) 0)
+    go (bad e h t b) = rw e (length-replicate (l .size) 0)
+    go (done e h) = rw e (h .long)
+
+module _ (l : Layout) (s : List ℕ) {answer : Answer} {r : List ℕ} (judged : answer ≡ readAnswer l s) (kept : r ≡ ifDone answer s (zeros (l .size))) where
+  pub kept-is : r ≡ legalOrZeros l s
+  unfolding legalOrZeros
+  kept-is = kept ∙ ap (λ (a : Answer). ifDone a s (zeros (l .size))) judged
+
+  pub kept-long : length r ≡ l .size
+  kept-long = ap length kept-is ∙ legal-long l s
