@@ -21,7 +21,7 @@ use Rattle.wire.proofs.FirstNot.{no-place}
 use Rattle.wire.proofs.BadPlaces.{all-obey, no-bad-place, first-bad}
 
 -- the three ways that a reading can go
-data Way (l : Layout) (s : List ℕ) : Type 0 where
+pub data Way (l : Layout) (s : List ℕ) : Type 0 where
   malformed : readAnswer l s ≡ Malformed → ((length s ≡ l .size) × (getD s 0 0 ≡ l .code) → ⊥) → Way l s
   bad : readAnswer l s ≡ BadField → length s ≡ l .size → getD s 0 0 ≡ l .code → (AllObey (l .fields) s → ⊥) → Way l s
   done : readAnswer l s ≡ Done → Legal l s → Way l s
@@ -31,7 +31,7 @@ module _ (l : Layout) (s : List ℕ) where
   judged e t none p = done (legal l s e t (ap place p)) (record { long = e; typed = t; judged = all-obey (l .fields) s p })
   judged e t (some i) p = bad (bad-field l s e t i (ap place p)) e t (λ h. no-place (sym (no-bad-place (l .fields) s h) ∙ p))
 
-  way : Way l s
+  pub way : Way l s
   way =
       ⊎-elim
       (λ e.

@@ -6,3 +6,4 @@ pub mod Price
 pub mod Layout
 pub mod Messages
 pub mod Legal
+pub mod Faithful
