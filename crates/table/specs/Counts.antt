@@ -1,4 +1,5 @@
 -- The three counts of an order: liable, executed and self-matched, and what is open of it (Table and outbox, Record).
+use Prim.Native.Nat.{_+_, _≤_}
 use Rattle.wire.specs.Shares.{total, _together_, _less_, _cutBy_, _grownBy_}
 use Rattle.wire.specs.declared.shares.Total.{Total}
 use Rattle.wire.specs.declared.shares.Removed.{Removed}
@@ -7,6 +8,10 @@ pub use Rattle.table.specs.declared.order.Counts.{Counts}
 -- executed + self-matched
 unfoldable pub gone : Counts → Total
 gone s = s .executed together s .matched
+
+-- executed + self-matched is at most liable: so it is in every used record of a sound table
+abbrev pub Within : Counts → Type 0
+Within s = s .executed .0 + s .matched .0 ≤ s .liable .0
 
 -- Open = liable − executed − self-matched
 unfoldable pub openShares : Counts → Removed

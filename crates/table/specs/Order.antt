@@ -1,4 +1,6 @@
 -- A record of the table as a value (Table and outbox, Record).
+use mathlib.Core.Path.{_≡_}
+use mathlib.Core.Logic.{_⊎_}
 use Prim.Native.Nat.{ℕ, _+_, _-_, _/_, _%_}
 use mathlib.Core.Bool.{Bool, false, not, _&&_}
 use mathlib.Core.List.{List, [], _∷_}
@@ -84,6 +86,10 @@ isUsed o = not (eqb (o .state) 0)
 
 abbrev pub flagged : ℕ → ℕ → Bool
 flagged bit flags = eqb (flags / bit % 2) 1
+
+-- one of the three bits
+abbrev pub FlagBit : ℕ → Type 0
+FlagBit bit = (bit ≡ lateBit) ⊎ ((bit ≡ pendingBit) ⊎ (bit ≡ rejectSentBit))
 
 unfoldable pub isLate : Order → Bool
 isLate o = flagged lateBit (o .flags)

@@ -1,0 +1,11 @@
+use mathlib.Core.Path.{refl}
+use Rattle.table.specs.Header.{isOpenDay}
+use Rattle.table.proofs.header.is_open_day.Statement.{statement}
+use Rattle.table.proofs.header.is_open_day.Tie as tie
+
+returns : tie.Need-returns
+unfolding isOpenDay
+returns c = refl
+
+pub is-open-day-spec : {M : Type 1} → statement M
+is-open-day-spec = tie.close (tie.spec returns)

@@ -1,0 +1,29 @@
+use mathlib.Core.Path.{_≡_, sym, _∙_}
+use mathlib.Core.Bool.{true, false}
+use Rattle.table.specs.Header.{isBlank, meantFirm}
+use borrow.Author.Needs.{needs}
+use Rattle.table.specs.Header.{meantFirm}
+use Rattle.table.proofs.header.meant_firm.Statement.{statement}
+use Rattle.table.proofs.header.meant_firm.Tie as tie
+
+is-blank-requires : tie.Need-is-blank-requires
+is-blank-requires c κs = search needs
+
+firm-at-requires : tie.Need-firm-at-requires
+firm-at-requires c κs = search needs
+
+returns : tie.Need-returns
+unfolding meantFirm
+returns c =
+    let a = c .before .before .before .before .args in
+    let b : isBlank (a .firm) ≡ true = sym (c .before .before .before .is-blank .ensures) ∙ c .before .before .if1 .taken in
+    c .firm-at .ensures ∙ sym (rw b)
+
+returns-2 : tie.Need-returns-2
+unfolding meantFirm
+returns-2 c =
+    let b : isBlank (c .before .before .args .firm) ≡ false = sym (c .before .is-blank .ensures) ∙ c .if1 .left in
+    sym (rw b)
+
+pub meant-firm-spec : {M : Type 1} → statement M
+meant-firm-spec = tie.close (tie.spec is-blank-requires firm-at-requires returns returns-2)

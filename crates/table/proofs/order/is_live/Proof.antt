@@ -1,0 +1,11 @@
+use mathlib.Core.Path.{refl}
+use Rattle.table.specs.Order.{isLive}
+use Rattle.table.proofs.order.is_live.Statement.{statement}
+use Rattle.table.proofs.order.is_live.Tie as tie
+
+returns : tie.Need-returns
+unfolding isLive
+returns c = refl
+
+pub is-live-spec : {M : Type 1} → statement M
+is-live-spec = tie.close (tie.spec returns)

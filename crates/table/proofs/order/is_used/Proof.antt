@@ -1,0 +1,11 @@
+use mathlib.Core.Path.{refl}
+use Rattle.table.specs.Order.{isUsed}
+use Rattle.table.proofs.order.is_used.Statement.{statement}
+use Rattle.table.proofs.order.is_used.Tie as tie
+
+returns : tie.Need-returns
+unfolding isUsed
+returns c = refl
+
+pub is-used-spec : {M : Type 1} → statement M
+is-used-spec = tie.close (tie.spec returns)

@@ -1,0 +1,11 @@
+use mathlib.Core.Path.{refl}
+use Rattle.table.specs.Order.{withDetails}
+use Rattle.table.proofs.order.with_details.Statement.{statement}
+use Rattle.table.proofs.order.with_details.Tie as tie
+
+returns : tie.Need-returns
+unfolding withDetails
+returns c = refl
+
+pub with-details-spec : {M : Type 1} → statement M
+with-details-spec = tie.close (tie.spec returns)
