@@ -1,4 +1,4 @@
--- O (What each entry does).
+-- O: an order is entered (What each entry does, O).
 use Prim.Native.Nat.{ℕ, min}
 use mathlib.Core.Bool.{Bool, not, _&&_, _||_}
 use lib.Dec.{ltb, eqb}
@@ -51,13 +51,10 @@ enterFault h e =
 
 -- ---- the order as accepted
 
--- time in force above 99,999 becomes 99,999
-unfoldable pub acceptedTime : ℕ → ℕ
-acceptedTime time = min time longestTime
-
-unfoldable pub enteredTerms : EnterOrder → Terms
-enteredTerms e =
-    record { price = e .price; time = acceptedTime (e .time); display = e .display; sweep = e .sweep; minimum = e .minimum }
+-- what O and U bring anew: echoed, but time in force above 99,999 becomes 99,999
+unfoldable pub acceptedTerms : ℕ → ℕ → ℕ → ℕ → ℕ → Terms
+acceptedTerms price time display sweep minimum =
+    record { price = price; time = min time longestTime; display = display; sweep = sweep; minimum = minimum }
 
 -- a blank firm becomes the default; capacity outside A P R becomes O
 unfoldable pub enteredKept : Header → EnterOrder → Kept
@@ -80,7 +77,7 @@ enteredOrder h e =
       flags = 0;
       details = record {
         kept = enteredKept h e;
-        terms = enteredTerms e;
+        terms = acceptedTerms (e .price) (e .time) (e .display) (e .sweep) (e .minimum);
         reference = h .reference;
         previous = zeros tokenSize;
         spare = 0;

@@ -10,7 +10,7 @@ use Rattle.wire.specs.Limits.{tokenSize}
 use Rattle.table.specs.Limits.{mostShares, highestThreshold, firmSize, mostFirms, dayClosed}
 use Rattle.table.specs.Counts.{newCounts}
 use Rattle.table.specs.Order.{isLive, noOrder, rejectedOrder}
-use Rattle.rules.specs.Types.{Counts, Order, Header, EnterOrder, ReplaceOrder, Plan, Notice, Silent, SystemEvent, Accepted, Replaced, Canceled, AiqCancelled, Executed, Rejected, CancelPending, CancelReject, PriorityUpdate, Modified}
+use Rattle.rules.specs.Types.{Counts, Order, Header, EnterOrder, Decision, Notice, Silent, SystemEvent, Accepted, Replaced, Canceled, AiqCancelled, Executed, Rejected, CancelPending, CancelReject, PriorityUpdate, Modified}
 
 -- ---- what a sound table gives
 
@@ -39,6 +39,13 @@ pub record Shaped (o : Order) : Type 0 where
 pub record HeaderHolds (h : Header) : Type 0 where
   pub threshold : h .threshold .0 ≤ highestThreshold
   pub firms : length (h .firms) ≡ firmSize * mostFirms
+
+-- ---- what a read entry gives: the same of its texts
+
+pub record EnterShaped (e : EnterOrder) : Type 0 where
+  pub token : length (e .token) ≡ tokenSize
+  pub stock : length (e .stock) ≡ 8
+  pub firm : length (e .firm) ≡ 4
 
 -- ---- what a plan keeps
 
@@ -90,7 +97,8 @@ pub data Addition (token : List ℕ) (named new : Order) : Type 0 where
   entered : Born token 0 0 (zeros tokenSize) new → Addition token named new
   replacing : Born token (named .shares .executed .0) (named .shares .matched .0) (named .token) new → Addition token named new
 
-pub record Keeps (named : Order) (t : List ℕ) (p : Plan) : Type 0 where
-  pub changed : Change named (p .notice) (p .changed)
-  pub added : Addition t named (p .added)
-  pub begins : p .begins ≤ dayClosed
+-- what every decision of the rules keeps, of an entry that names the order `named` and may use up the token t
+pub record Keeps (named : Order) (t : List ℕ) (d : Decision) : Type 0 where
+  pub changed : Change named (d .plan .notice) (d .plan .changed)
+  pub added : Addition t named (d .plan .added)
+  pub begins : d .plan .begins ≤ dayClosed
