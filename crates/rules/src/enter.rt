@@ -115,7 +115,11 @@ fn entered_kept(h: Header, e: EnterOrder) -> Kept
     let stock = e.stock;
     let sent = e.firm;
     let firm = meant_firm(h, sent);
-    let capacity = if is_capacity(e.capacity) { e.capacity } else { b'O' };
+    let capacity = if is_capacity(e.capacity) {
+        e.capacity
+    } else {
+        b'O'
+    };
     Kept {
         stock,
         firm,

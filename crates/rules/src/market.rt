@@ -54,7 +54,10 @@ pub fn execution(h: Header, o: Order, e: Execution) -> Decision
     if shares_wrong(o, e.shares) {
         return refused(Answer::WrongShares);
     }
-    changing(with_counts(o, executing(o.shares, e.shares)), Notice::Executed(e))
+    changing(
+        with_counts(o, executing(o.shares, e.shares)),
+        Notice::Executed(e),
+    )
 }
 
 // The book may cancel on any day, so this asks for no header.
@@ -69,7 +72,10 @@ pub fn book_cancel(o: Order, e: BookCancel) -> Decision
         return refused(Answer::WrongShares);
     }
     let by = e.shares;
-    changing(with_counts(o, cut(o.shares, by)), Notice::Canceled(by, e.reason))
+    changing(
+        with_counts(o, cut(o.shares, by)),
+        Notice::Canceled(by, e.reason),
+    )
 }
 
 pub fn self_match(h: Header, o: Order, e: SelfMatch) -> Decision
@@ -85,7 +91,10 @@ pub fn self_match(h: Header, o: Order, e: SelfMatch) -> Decision
     if shares_wrong(o, e.shares) {
         return refused(Answer::WrongShares);
     }
-    changing(with_counts(o, self_matching(o.shares, e.shares)), Notice::AiqCancelled(e))
+    changing(
+        with_counts(o, self_matching(o.shares, e.shares)),
+        Notice::AiqCancelled(e),
+    )
 }
 
 fn prioritised_order(h: Header, o: Order, e: Priority) -> Order

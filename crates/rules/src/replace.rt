@@ -41,7 +41,9 @@ fn bad_details(h: Header, old: Order, e: ReplaceOrder) -> bool
         return true;
     }
     let new_open = Removed(e.shares.0 - floor.0);
-    bad_price(e.price, cross) | bad_display(e.display, cross) | bad_minimum(e.minimum, e.time, new_open)
+    bad_price(e.price, cross)
+        | bad_display(e.display, cross)
+        | bad_minimum(e.minimum, e.time, new_open)
 }
 
 fn replacement_order(h: Header, old: Order, e: ReplaceOrder) -> Order

@@ -26,9 +26,10 @@ is-listed-requires c κs = search needs
 returns-2 : tie.Need-returns-2
 unfolding enterFault
 returns-2 c =
-    simp
-    (denied (c .before .before .before .before .before .is-open-day .ensures) (c .before .before .before .before .if1 .left),
-    denied (c .before .is-listed .ensures ∙ ap (isListed _) (c .before .before .meant-firm .ensures)) (c .if2 .taken))
+    simp (
+      denied (c .before .before .before .before .before .is-open-day .ensures) (c .before .before .before .before .if1 .left),
+      denied (c .before .is-listed .ensures ∙ ap (isListed _) (c .before .before .meant-firm .ensures)) (c .if2 .taken),
+    )
 
 slice-aggregate-is-shaped : tie.Need-slice-aggregate-is-shaped
 slice-aggregate-is-shaped c = search needs
@@ -39,10 +40,11 @@ is-shaped-requires c κs = search needs
 returns-3 : tie.Need-returns-3
 unfolding enterFault
 returns-3 c =
-    simp
-    (denied (c .before .before .before .before .before .before .before .before .before .is-open-day .ensures) (c .before .before .before .before .before .before .before .before .if1 .left),
-    denied (c .before .before .before .before .before .is-listed .ensures ∙ ap (isListed _) (c .before .before .before .before .before .before .meant-firm .ensures)) (c .before .before .before .before .if2 .left),
-    denied (c .before .is-shaped .ensures) (c .if3 .taken))
+    simp (
+      denied (c .before .before .before .before .before .before .before .before .before .is-open-day .ensures) (c .before .before .before .before .before .before .before .before .if1 .left),
+      denied (c .before .before .before .before .before .is-listed .ensures ∙ ap (isListed _) (c .before .before .before .before .before .before .meant-firm .ensures)) (c .before .before .before .before .if2 .left),
+      denied (c .before .is-shaped .ensures) (c .if3 .taken),
+    )
 
 is-cross-requires : tie.Need-is-cross-requires
 is-cross-requires c κs = search needs
@@ -50,11 +52,12 @@ is-cross-requires c κs = search needs
 returns-4 : tie.Need-returns-4
 unfolding enterFault
 returns-4 c =
-    simp
-    (denied (c .before .before .before .before .before .before .before .before .before .before .before .is-open-day .ensures) (c .before .before .before .before .before .before .before .before .before .before .if1 .left),
-    denied (c .before .before .before .before .before .before .before .is-listed .ensures ∙ ap (isListed _) (c .before .before .before .before .before .before .before .before .meant-firm .ensures)) (c .before .before .before .before .before .before .if2 .left),
-    denied (c .before .before .before .is-shaped .ensures) (c .before .before .if3 .left),
-    denied (c .before .is-cross .ensures) (c .if4 .taken))
+    simp (
+      denied (c .before .before .before .before .before .before .before .before .before .before .before .is-open-day .ensures) (c .before .before .before .before .before .before .before .before .before .before .if1 .left),
+      denied (c .before .before .before .before .before .before .before .is-listed .ensures ∙ ap (isListed _) (c .before .before .before .before .before .before .before .before .meant-firm .ensures)) (c .before .before .before .before .before .before .if2 .left),
+      denied (c .before .before .before .is-shaped .ensures) (c .before .before .if3 .left),
+      denied (c .before .is-cross .ensures) (c .if4 .taken),
+    )
 
 bad-display-requires : tie.Need-bad-display-requires
 bad-display-requires c κs = search needs
@@ -62,12 +65,13 @@ bad-display-requires c κs = search needs
 returns-5 : tie.Need-returns-5
 unfolding enterFault
 returns-5 c =
-    simp
-    (denied (c .before .before .before .before .before .before .before .before .before .before .before .before .before .is-open-day .ensures) (c .before .before .before .before .before .before .before .before .before .before .before .before .if1 .left),
-    denied (c .before .before .before .before .before .before .before .before .before .is-listed .ensures ∙ ap (isListed _) (c .before .before .before .before .before .before .before .before .before .before .meant-firm .ensures)) (c .before .before .before .before .before .before .before .before .if2 .left),
-    denied (c .before .before .before .before .before .is-shaped .ensures) (c .before .before .before .before .if3 .left),
-    denied (c .before .before .before .is-cross .ensures) (c .before .before .if4 .left),
-    answered (c .before .bad-display .ensures) (c .if5 .taken))
+    simp (
+      denied (c .before .before .before .before .before .before .before .before .before .before .before .before .before .is-open-day .ensures) (c .before .before .before .before .before .before .before .before .before .before .before .before .if1 .left),
+      denied (c .before .before .before .before .before .before .before .before .before .is-listed .ensures ∙ ap (isListed _) (c .before .before .before .before .before .before .before .before .before .before .meant-firm .ensures)) (c .before .before .before .before .before .before .before .before .if2 .left),
+      denied (c .before .before .before .before .before .is-shaped .ensures) (c .before .before .before .before .if3 .left),
+      denied (c .before .before .before .is-cross .ensures) (c .before .before .if4 .left),
+      answered (c .before .bad-display .ensures) (c .if5 .taken),
+    )
 
 bad-price-requires : tie.Need-bad-price-requires
 bad-price-requires c κs = search needs
@@ -75,13 +79,14 @@ bad-price-requires c κs = search needs
 returns-6 : tie.Need-returns-6
 unfolding enterFault
 returns-6 c =
-    simp
-    (denied (c .before .before .before .before .before .before .before .before .before .before .before .before .before .before .before .is-open-day .ensures) (c .before .before .before .before .before .before .before .before .before .before .before .before .before .before .if1 .left),
-    denied (c .before .before .before .before .before .before .before .before .before .before .before .is-listed .ensures ∙ ap (isListed _) (c .before .before .before .before .before .before .before .before .before .before .before .before .meant-firm .ensures)) (c .before .before .before .before .before .before .before .before .before .before .if2 .left),
-    denied (c .before .before .before .before .before .before .before .is-shaped .ensures) (c .before .before .before .before .before .before .if3 .left),
-    denied (c .before .before .before .before .before .is-cross .ensures) (c .before .before .before .before .if4 .left),
-    answered (c .before .before .before .bad-display .ensures) (c .before .before .if5 .left),
-    answered (c .before .bad-price .ensures) (c .if6 .taken))
+    simp (
+      denied (c .before .before .before .before .before .before .before .before .before .before .before .before .before .before .before .is-open-day .ensures) (c .before .before .before .before .before .before .before .before .before .before .before .before .before .before .if1 .left),
+      denied (c .before .before .before .before .before .before .before .before .before .before .before .is-listed .ensures ∙ ap (isListed _) (c .before .before .before .before .before .before .before .before .before .before .before .before .meant-firm .ensures)) (c .before .before .before .before .before .before .before .before .before .before .if2 .left),
+      denied (c .before .before .before .before .before .before .before .is-shaped .ensures) (c .before .before .before .before .before .before .if3 .left),
+      denied (c .before .before .before .before .before .is-cross .ensures) (c .before .before .before .before .if4 .left),
+      answered (c .before .before .before .bad-display .ensures) (c .before .before .if5 .left),
+      answered (c .before .bad-price .ensures) (c .if6 .taken),
+    )
 
 bad-shares-requires : tie.Need-bad-shares-requires
 bad-shares-requires c κs = search needs
@@ -89,14 +94,15 @@ bad-shares-requires c κs = search needs
 returns-7 : tie.Need-returns-7
 unfolding enterFault
 returns-7 c =
-    simp
-    (denied (c .before .before .before .before .before .before .before .before .before .before .before .before .before .before .before .before .before .is-open-day .ensures) (c .before .before .before .before .before .before .before .before .before .before .before .before .before .before .before .before .if1 .left),
-    denied (c .before .before .before .before .before .before .before .before .before .before .before .before .before .is-listed .ensures ∙ ap (isListed _) (c .before .before .before .before .before .before .before .before .before .before .before .before .before .before .meant-firm .ensures)) (c .before .before .before .before .before .before .before .before .before .before .before .before .if2 .left),
-    denied (c .before .before .before .before .before .before .before .before .before .is-shaped .ensures) (c .before .before .before .before .before .before .before .before .if3 .left),
-    denied (c .before .before .before .before .before .before .before .is-cross .ensures) (c .before .before .before .before .before .before .if4 .left),
-    answered (c .before .before .before .before .before .bad-display .ensures) (c .before .before .before .before .if5 .left),
-    answered (c .before .before .before .bad-price .ensures) (c .before .before .if6 .left),
-    answered (c .before .bad-shares .ensures) (c .if7 .taken))
+    simp (
+      denied (c .before .before .before .before .before .before .before .before .before .before .before .before .before .before .before .before .before .is-open-day .ensures) (c .before .before .before .before .before .before .before .before .before .before .before .before .before .before .before .before .if1 .left),
+      denied (c .before .before .before .before .before .before .before .before .before .before .before .before .before .is-listed .ensures ∙ ap (isListed _) (c .before .before .before .before .before .before .before .before .before .before .before .before .before .before .meant-firm .ensures)) (c .before .before .before .before .before .before .before .before .before .before .before .before .if2 .left),
+      denied (c .before .before .before .before .before .before .before .before .before .is-shaped .ensures) (c .before .before .before .before .before .before .before .before .if3 .left),
+      denied (c .before .before .before .before .before .before .before .is-cross .ensures) (c .before .before .before .before .before .before .if4 .left),
+      answered (c .before .before .before .before .before .bad-display .ensures) (c .before .before .before .before .if5 .left),
+      answered (c .before .before .before .bad-price .ensures) (c .before .before .if6 .left),
+      answered (c .before .bad-shares .ensures) (c .if7 .taken),
+    )
 
 bad-minimum-requires : tie.Need-bad-minimum-requires
 bad-minimum-requires c κs = search needs
@@ -104,30 +110,32 @@ bad-minimum-requires c κs = search needs
 returns-8 : tie.Need-returns-8
 unfolding enterFault
 returns-8 c =
-    simp
-    (sub-zero,
-    denied (c .before .before .before .before .before .before .before .before .before .before .before .before .before .before .before .before .before .before .before .is-open-day .ensures) (c .before .before .before .before .before .before .before .before .before .before .before .before .before .before .before .before .before .before .if1 .left),
-    denied (c .before .before .before .before .before .before .before .before .before .before .before .before .before .before .before .is-listed .ensures ∙ ap (isListed _) (c .before .before .before .before .before .before .before .before .before .before .before .before .before .before .before .before .meant-firm .ensures)) (c .before .before .before .before .before .before .before .before .before .before .before .before .before .before .if2 .left),
-    denied (c .before .before .before .before .before .before .before .before .before .before .before .is-shaped .ensures) (c .before .before .before .before .before .before .before .before .before .before .if3 .left),
-    denied (c .before .before .before .before .before .before .before .before .before .is-cross .ensures) (c .before .before .before .before .before .before .before .before .if4 .left),
-    answered (c .before .before .before .before .before .before .before .bad-display .ensures) (c .before .before .before .before .before .before .if5 .left),
-    answered (c .before .before .before .before .before .bad-price .ensures) (c .before .before .before .before .if6 .left),
-    answered (c .before .before .before .bad-shares .ensures) (c .before .before .if7 .left),
-    answered (c .before .bad-minimum .ensures) (c .if8 .taken))
+    simp (
+      sub-zero,
+      denied (c .before .before .before .before .before .before .before .before .before .before .before .before .before .before .before .before .before .before .before .is-open-day .ensures) (c .before .before .before .before .before .before .before .before .before .before .before .before .before .before .before .before .before .before .if1 .left),
+      denied (c .before .before .before .before .before .before .before .before .before .before .before .before .before .before .before .is-listed .ensures ∙ ap (isListed _) (c .before .before .before .before .before .before .before .before .before .before .before .before .before .before .before .before .meant-firm .ensures)) (c .before .before .before .before .before .before .before .before .before .before .before .before .before .before .if2 .left),
+      denied (c .before .before .before .before .before .before .before .before .before .before .before .is-shaped .ensures) (c .before .before .before .before .before .before .before .before .before .before .if3 .left),
+      denied (c .before .before .before .before .before .before .before .before .before .is-cross .ensures) (c .before .before .before .before .before .before .before .before .if4 .left),
+      answered (c .before .before .before .before .before .before .before .bad-display .ensures) (c .before .before .before .before .before .before .if5 .left),
+      answered (c .before .before .before .before .before .bad-price .ensures) (c .before .before .before .before .if6 .left),
+      answered (c .before .before .before .bad-shares .ensures) (c .before .before .if7 .left),
+      answered (c .before .bad-minimum .ensures) (c .if8 .taken),
+    )
 
 returns-9 : tie.Need-returns-9
 unfolding enterFault
 returns-9 c =
-    simp
-    (sub-zero,
-    denied (c .before .before .before .before .before .before .before .before .before .before .before .before .before .before .before .before .before .before .before .is-open-day .ensures) (c .before .before .before .before .before .before .before .before .before .before .before .before .before .before .before .before .before .before .if1 .left),
-    denied (c .before .before .before .before .before .before .before .before .before .before .before .before .before .before .before .is-listed .ensures ∙ ap (isListed _) (c .before .before .before .before .before .before .before .before .before .before .before .before .before .before .before .before .meant-firm .ensures)) (c .before .before .before .before .before .before .before .before .before .before .before .before .before .before .if2 .left),
-    denied (c .before .before .before .before .before .before .before .before .before .before .before .is-shaped .ensures) (c .before .before .before .before .before .before .before .before .before .before .if3 .left),
-    denied (c .before .before .before .before .before .before .before .before .before .is-cross .ensures) (c .before .before .before .before .before .before .before .before .if4 .left),
-    answered (c .before .before .before .before .before .before .before .bad-display .ensures) (c .before .before .before .before .before .before .if5 .left),
-    answered (c .before .before .before .before .before .bad-price .ensures) (c .before .before .before .before .if6 .left),
-    answered (c .before .before .before .bad-shares .ensures) (c .before .before .if7 .left),
-    answered (c .before .bad-minimum .ensures) (c .if8 .left))
+    simp (
+      sub-zero,
+      denied (c .before .before .before .before .before .before .before .before .before .before .before .before .before .before .before .before .before .before .before .is-open-day .ensures) (c .before .before .before .before .before .before .before .before .before .before .before .before .before .before .before .before .before .before .if1 .left),
+      denied (c .before .before .before .before .before .before .before .before .before .before .before .before .before .before .before .is-listed .ensures ∙ ap (isListed _) (c .before .before .before .before .before .before .before .before .before .before .before .before .before .before .before .before .meant-firm .ensures)) (c .before .before .before .before .before .before .before .before .before .before .before .before .before .before .if2 .left),
+      denied (c .before .before .before .before .before .before .before .before .before .before .before .is-shaped .ensures) (c .before .before .before .before .before .before .before .before .before .before .if3 .left),
+      denied (c .before .before .before .before .before .before .before .before .before .is-cross .ensures) (c .before .before .before .before .before .before .before .before .if4 .left),
+      answered (c .before .before .before .before .before .before .before .bad-display .ensures) (c .before .before .before .before .before .before .if5 .left),
+      answered (c .before .before .before .before .before .bad-price .ensures) (c .before .before .before .before .if6 .left),
+      answered (c .before .before .before .bad-shares .ensures) (c .before .before .if7 .left),
+      answered (c .before .bad-minimum .ensures) (c .if8 .left),
+    )
 
 pub enter-fault-spec : {M : Type 1} → statement M
 enter-fault-spec =

@@ -42,9 +42,14 @@ bad-minimum-requires c κs = search needs
 returns-3 : tie.Need-returns-3
 unfolding badDetails
 returns-3 c =
-    simp
-    (answered (c .before .before .before .before .before .before .before .before .before .bad-shares .ensures) (c .before .before .before .before .before .before .before .before .if1 .left), lt-ltb _ _ (subst (λ (t : Total). t .0 < c .before .before .before .before .before .before .before .before .before .before .before .args .e .shares .0) (c .before .before .before .before .before .before .before .before .before .before .gone .ensures) (c .before .before .before .before .before .if2 .left)),
-    c .before .before .before .before .before .before .before .before .before .before .gone .ensures, c .before .before .bad-price .ensures, c .before .bad-display .ensures, c .bad-minimum .ensures)
+    simp (
+      answered (c .before .before .before .before .before .before .before .before .before .bad-shares .ensures) (c .before .before .before .before .before .before .before .before .if1 .left),
+      lt-ltb _ _ (subst (λ (t : Total). t .0 < c .before .before .before .before .before .before .before .before .before .before .before .args .e .shares .0) (c .before .before .before .before .before .before .before .before .before .before .gone .ensures) (c .before .before .before .before .before .if2 .left)),
+      c .before .before .before .before .before .before .before .before .before .before .gone .ensures,
+      c .before .before .bad-price .ensures,
+      c .before .bad-display .ensures,
+      c .bad-minimum .ensures,
+    )
 
 pub bad-details-spec : {M : Type 1} → statement M
 bad-details-spec =
