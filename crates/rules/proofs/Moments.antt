@@ -4,17 +4,20 @@ use mathlib.Core.Path.{_≡_, refl}
 use mathlib.Core.Bool.{Bool, true, false, not, _||_}
 use lib.Dec.{eqb}
 use native.Mathlib.Omega.{arith}
-use borrow.Author.Tests.{ltb-true, ltb-false, not-false}
+use borrow.Author.Tests.{eqb-false, ltb-true, ltb-false, not-false}
 use Rattle.octets.specs.Choice.{pick}
 use Rattle.octets.proofs.Guards.{or-left, or-right}
 use Rattle.wire.specs.declared.price.Price.{Price}
 use Rattle.wire.specs.declared.price.Priced.the-variants.{Good, Bad}
+use Rattle.table.specs.Limits.{mostShares}
 use Rattle.table.specs.Counts.{gone, openShares}
 use Rattle.table.specs.Order.{isLive, isLate}
 use Rattle.table.specs.Header.{isOpenDay}
-use Rattle.wire.specs.Shares.{_isBelow_}
-use Rattle.rules.specs.Types.{Order, Header, Total, Removed, ModifyOrder}
-use Rattle.rules.specs.Sane.{Open}
+use Rattle.wire.specs.Shares.{total, _isBelow_, _equals_}
+use Rattle.rules.specs.Types.{Order, Header, Total, Removed, ModifyOrder, ReplaceOrder}
+use Rattle.rules.specs.Sane.{Open, HeaderHolds}
+use Rattle.rules.specs.Enter.{badShares}
+use Rattle.rules.specs.Replace.{badDetails}
 use Rattle.rules.specs.Cancel.{cancelIgnored}
 use Rattle.rules.specs.Modify.{sideAllowed, modifyIgnored}
 use Rattle.rules.specs.Market.{sharesWrong}
@@ -66,3 +69,22 @@ made-good false p e = absurd (let z : _≡_ {A = ℕ} 0 1 = cc in omega arith)
 pub made-bad : (g : Bool) (p : Price) → pick g (Good p) Bad ≡ Bad → true ≡ not g
 made-bad false p e = refl
 made-bad true p e = absurd (let z : _≡_ {A = ℕ} 0 1 = cc in omega arith)
+
+-- shares of O or U that are not bad, and details of U that are not
+
+pub fair-shares : (h : Header) (s : Total) → HeaderHolds h → badShares h s ≡ false → (0 < s .0) × (s .0 ≤ mostShares)
+unfolding badShares
+fair-shares h s holds e =
+    let some = eqb-false (s .0) 0 (or-left _ _ e) in
+    let below = ltb-true (s .0) (h .threshold .0) (not-false _ (or-right (s equals total 0) _ e)) in
+    let threshold = holds .threshold in
+    (omega (arith, some), omega arith)
+
+pub good-shares : (h : Header) (old : Order) (e : ReplaceOrder) → badDetails h old e ≡ false → badShares h (e .shares) ≡ false
+unfolding badDetails
+good-shares h old e p = or-left _ _ (or-left _ _ (or-left _ _ (or-left _ _ p)))
+
+pub new-open : (h : Header) (old : Order) (e : ReplaceOrder) → badDetails h old e ≡ false
+    → old .shares .executed .0 + old .shares .matched .0 < e .shares .0
+unfolding badDetails gone
+new-open h old e p = ltb-true _ _ (not-false _ (or-right (badShares h (e .shares)) _ (or-left _ _ (or-left _ _ (or-left _ _ p)))))
