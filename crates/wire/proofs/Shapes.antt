@@ -29,7 +29,7 @@ no-space b h = ne-eqb b space (λ e. first (leb 65 b) (leb b 90) (λ l. omega (a
 
 judged : (capital? space? ok blank : Bool) (spaces shapely : Bool) → (capital? ≡ true → space? ≡ false)
     → (ok && pick blank (space? && spaces) (pick capital? shapely (space? && spaces)))
-      ≡ ((ok && (space? || (not blank && capital?))) && pick (blank || space?) spaces shapely)
+    ≡ ((ok && (space? || (not blank && capital?))) && pick (blank || space?) spaces shapely)
 judged capital? space? false blank spaces shapely h = refl
 judged true true true blank spaces shapely h = let z : _≡_ {A = ℕ} 0 1 = cc (h refl) in absurd (omega arith)
 judged true false true true spaces shapely h = refl
@@ -42,7 +42,7 @@ judged false false true false spaces shapely h = refl
 -- one byte more
 pub shaped-next : (s : List ℕ) (i : ℕ) (ok blank : Bool) → i < length s
     → (ok && rest blank (drop i s))
-      ≡ ((ok && (eqb (getD s i 0) space || (not blank && capital (getD s i 0)))) && rest (blank || eqb (getD s i 0) space) (drop (i + 1) s))
+    ≡ ((ok && (eqb (getD s i 0) space || (not blank && capital (getD s i 0)))) && rest (blank || eqb (getD s i 0) space) (drop (i + 1) s))
 unfolding capitalsThenSpaces allAre
 shaped-next s i ok blank h =
     let b : ℕ = getD s i 0 in

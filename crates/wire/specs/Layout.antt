@@ -1,16 +1,20 @@
 -- What bytes are made of: a list of fields, each with its offset, its width and what is judged of it. One description serves messages,
 -- entries, the header and the records.
-use Prim.Native.Nat.{ℕ, _+_}
+use mathlib.Core.Path.{_≡_}
+use Prim.Native.Nat.{ℕ, _+_, _^_, _<_}
 use Prim.Native.String.{String}
 use mathlib.Core.Bool.{Bool, true, false, _&&_}
 use mathlib.Core.List.{List, [], _∷_, _++_}
 use mathlib.Core.Option.{Option, none, some}
 use lib.Dec.{leb, ltb, eqb}
+use lib.ListN.{length}
 use Rattle.octets.specs.Choice.{pick, among}
 use Rattle.wire.specs.Letters.{sides, sweeps, liquidityFlags, bookReasons, systemEvents}
 use Rattle.wire.specs.Limits.{stampEnd, tokenSize, lowestPrice, highestPrice}
 use Rattle.octets.specs.Bytes.{part, numberOf, digits, zeros}
 use Rattle.wire.specs.Text.{tokenByte}
+pub use Rattle.wire.specs.declared.places.Place.{Place}
+pub use Rattle.wire.specs.declared.places.Place.the-variants.{Nowhere, At}
 
 -- a field holds a number, a text, or nothing (zeros)
 pub data Form : Type 0 where
@@ -117,6 +121,16 @@ abbrev pub spellFields : (fs : List Field) → Values fs → List ℕ
 spellFields [] v = []
 spellFields (f ∷ fs) v = spellValue (f .form) (f .width) (v .0) ++ spellFields fs (v .1)
 
+-- a value that its field can hold: a number below 256 to the width, a text of the width
+abbrev pub FitsField : (form : Form) → ℕ → Value form → Type 0
+FitsField number width v = v < 256 ^ width
+FitsField bytes width v = length v ≡ width
+FitsField gap width v = Unit {0}
+
+abbrev pub Fits : (fs : List Field) → Values fs → Type 0
+Fits [] v = Unit {0}
+Fits (f ∷ fs) v = FitsField (f .form) (f .width) (v .0) × Fits fs (v .1)
+
 -- the same with the values one by one: a layout is written and read as a function of its fields, in their order
 
 abbrev pub FromFields : List Field → Type 0 → Type 0
@@ -173,6 +187,15 @@ abbrev pub isNone : Option ℕ → Bool
 isNone none = true
 isNone (some at) = false
 
+-- the same as code hands it about
+abbrev pub place : Option ℕ → Place
+place none = Nowhere
+place (some at) = At at
+
+abbrev pub earlierOf : Place → Place → Place
+earlierOf Nowhere b = b
+earlierOf (At at) b = At at
+
 unfoldable pub noBadPlace : List Field → List ℕ → Bool
 noBadPlace fs s = isNone (firstBadPlace fs s)
 
@@ -202,6 +225,21 @@ unbroken at size (f ∷ fs) = eqb (f .at) at && unbroken (at + f .width) size fs
 
 unfoldable pub wellLaid : Layout → Bool
 wellLaid l = unbroken 1 (l .size) (l .fields)
+
+-- a gap is judged to be zeros, so that nothing of the bytes is lost where they are read and spelled again
+abbrev pub gapIsZero : Form → Rule → Bool
+gapIsZero gap allZero = true
+gapIsZero gap free = false
+gapIsZero gap (below n) = false
+gapIsZero gap (between low high) = false
+gapIsZero gap (oneOf letters) = false
+gapIsZero gap legalToken = false
+gapIsZero number rule = true
+gapIsZero bytes rule = true
+
+unfoldable pub gapsAreZero : List Field → Bool
+gapsAreZero [] = true
+gapsAreZero (f ∷ fs) = gapIsZero (f .form) (f .rule) && gapsAreZero fs
 
 -- a field that stands k bytes further on
 abbrev pub shifted : ℕ → Field → Field

@@ -1,17 +1,18 @@
 -- The sixteen messages of document 004, a table each: the type's letter, the length, and a line for each field with its offset. Which fields
 -- are judged is the paper's (Messages and entries): tokens and stamps everywhere, side and sweep letters inbound.
 use Prim.Native.Char.{code}
-use mathlib.Core.Bool.{not}
+use mathlib.Core.Bool.{Bool, not}
 use mathlib.Core.List.{List, [], _∷_, _++_}
+use mathlib.Core.Option.{Option, none, some}
 use Prim.Native.Nat.{ℕ}
 use lib.ListN.{length, getD, drop}
 use lib.Dec.{ltb, eqb}
-use Rattle.octets.specs.Choice.{firstOf_, _⇒_⨾_}
+use Rattle.octets.specs.Choice.{pick, firstOf_, _⇒_⨾_}
 use Rattle.answers.specs.Answer.{ifDone}
 use Rattle.answers.specs.declared.Answer.{Answer}
 use Rattle.answers.specs.declared.Answer.the-variants.{Done, Malformed, BadField, NoRoom}
 use Rattle.octets.specs.Bytes.{zeros}
-use Rattle.wire.specs.Layout.{Layout, Values, stampAt, tokenAt, sideAt, sweepAt, letterAt, numberAt, textAt, noBadPlace, readFields, spell}
+use Rattle.wire.specs.Layout.{Layout, stampAt, tokenAt, sideAt, sweepAt, letterAt, numberAt, textAt, noBadPlace, layoutFor}
 
 -- ---- inbound
 
@@ -242,6 +243,8 @@ modified = record {
       ∷ [];
 }
 
+-- ---- the sixteen as one list
+
 -- U and M are read as inbound or outbound, as the caller says
 abbrev pub inbound : List Layout
 inbound = enterOrder ∷ replaceOrder ∷ cancelOrder ∷ modifyOrder ∷ []
@@ -250,6 +253,27 @@ abbrev pub outbound : List Layout
 outbound =
     systemEvent ∷ accepted ∷ replaced ∷ canceled ∷ aiqCancelled ∷ executed ∷ brokenTrade ∷ rejected ∷ cancelPending ∷ cancelReject
     ∷ priorityUpdate ∷ modified ∷ []
+
+abbrev pub messages : List Layout
+messages = inbound ++ outbound
+
+abbrev pub noMessage : Layout
+noMessage = record { code = 0; size = 0; fields = [] }
+
+-- message k, the inbound ones first
+abbrev pub message : ℕ → Layout
+message k = getD messages k noMessage
+
+abbrev pub sizeOr0 : Option Layout → ℕ
+sizeOr0 none = 0
+sizeOr0 (some l) = l .size
+
+-- the length of the message among these with this type, 0 where there is none
+unfoldable pub lengthFor : List Layout → ℕ → ℕ
+lengthFor ls letter = sizeOr0 (layoutFor ls letter)
+
+abbrev pub messageLength : Bool → ℕ → ℕ
+messageLength isInbound letter = lengthFor (pick isInbound inbound outbound) letter
 
 -- ---- readers and writers
 
@@ -262,18 +286,18 @@ readAnswer l s =
     ⨾ not (noBadPlace (l .fields) s) ⇒ BadField
     ⨾ Done
 
--- a refused reader's fields are all zero
-unfoldable pub readMessage : (l : Layout) → List ℕ → Values (l .fields)
-readMessage l s = readFields (l .fields) (ifDone (readAnswer l s) s (zeros (l .size)))
+-- the bytes that a reader takes its fields from: a refused reader's fields are all zero
+unfoldable pub legalOrZeros : Layout → List ℕ → List ℕ
+legalOrZeros l s = ifDone (readAnswer l s) s (zeros (l .size))
 
--- a writer makes the same checks (3), then room (13)
-unfoldable pub writeAnswer : (l : Layout) → Values (l .fields) → List ℕ → Answer
-writeAnswer l v buffer =
+-- a writer makes the same checks of what it is to write (3), then room (13)
+unfoldable pub writeAnswer : Layout → List ℕ → List ℕ → Answer
+writeAnswer l bytes buffer =
     firstOf
-    not (noBadPlace (l .fields) (spell l v)) ⇒ BadField
+    not (noBadPlace (l .fields) bytes) ⇒ BadField
     ⨾ ltb (length buffer) (l .size) ⇒ NoRoom
     ⨾ Done
 
--- bytes after the message stay
-unfoldable pub writeMessage : (l : Layout) → Values (l .fields) → List ℕ → List ℕ
-writeMessage l v buffer = ifDone (writeAnswer l v buffer) (spell l v ++ drop (l .size) buffer) buffer
+-- the buffer after it: bytes after the message stay, and a refused writer changes none
+unfoldable pub written : Layout → List ℕ → List ℕ → List ℕ
+written l bytes buffer = ifDone (writeAnswer l bytes buffer) (bytes ++ drop (l .size) buffer) buffer

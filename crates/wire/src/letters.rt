@@ -49,7 +49,18 @@ pub fn is_opening_or_closing(b: u8) -> bool
 pub fn is_liquidity_flag(b: u8) -> bool
     ensures { λ r. ⌜ r ≡ among liquidityFlags b ⌝ }
 {
-    (b == b'A') | (b == b'R') | (b == b'O') | (b == b'M') | (b == b'C') | (b == b'L') | (b == b'H') | (b == b'K') | (b == b'J') | (b == b'm') | (b == b'k') | (b == b'V')
+    (b == b'A')
+        | (b == b'R')
+        | (b == b'O')
+        | (b == b'M')
+        | (b == b'C')
+        | (b == b'L')
+        | (b == b'H')
+        | (b == b'K')
+        | (b == b'J')
+        | (b == b'm')
+        | (b == b'k')
+        | (b == b'V')
 }
 
 pub fn is_book_reason(b: u8) -> bool

@@ -1,6 +1,5 @@
 // The price type: only a price that the paper lets an order have is ever made.
 use crate::letters::is_opening_or_closing;
-
 ghost use mathlib.Core.Path.{_≡_};
 ghost use Rattle.wire.specs.Price.{pricedOf};
 
@@ -14,6 +13,7 @@ pub enum Priced {
 
 impl Price {
     pub const LOWEST: u32 = 1;
+
     pub const HIGHEST: u32 = 1_999_999_900;
     // A market order in a cross.
     pub const MARKET: u32 = 2_147_483_647;

@@ -1,0 +1,74 @@
+-- Each answer by the tests that led there. Assumes nothing.
+use mathlib.Core.Path.{refl, sym, _∙_}
+use native.Mathlib.Omega.{arith}
+use borrow.Author.Needs.{needs}
+use Rattle.octets.specs.Choice.{allBelow}
+use Rattle.wire.specs.Messages.{message}
+use Rattle.wire.proofs.Numbered.{long}
+use Rattle.wire.proofs.Verdicts.{wrong-length, wrong-type, bad-field, legal}
+use Rattle.wire.proofs.judge.judge.Statement.{statement}
+use Rattle.wire.proofs.judge.judge.Tie as tie
+
+size-requires : tie.Need-size-requires
+size-requires c κs = search needs
+
+returns : tie.Need-returns
+returns c =
+    let a = c .before .before .before .args in
+    sym (wrong-length (message (a .k)) (a .s .now) (λ e. c .if1 .taken (e ∙ sym (c .before .size .ensures))))
+
+shared-slice-read-if2 : tie.Need-shared-slice-read-if2
+unfolding allBelow
+shared-slice-read-if2 c =
+    let s = c .before .before .before .before in
+    omega (arith, c .before .before .size .ensures, long 10 0 16 refl (s .args .k) (search needs) (s .pre))
+
+letter-of-requires : tie.Need-letter-of-requires
+letter-of-requires c κs = search needs
+
+returns-2 : tie.Need-returns-2
+returns-2 c =
+    let a = c .before .before .before .before .before .before .args in
+    let long = c .before .before .before .if1 .left ∙ c .before .before .before .before .size .ensures in
+    sym (wrong-type (message (a .k)) (a .s .now) long (λ e. c .if2 .taken (e ∙ sym (c .before .letter-of .ensures))))
+
+first-bad-requires : tie.Need-first-bad-requires
+first-bad-requires c κs = search needs
+
+enum-told : tie.Need-enum-told
+enum-told c = search needs
+
+enum-told-2 : tie.Need-enum-told-2
+enum-told-2 c = search needs
+
+returns-3 : tie.Need-returns-3
+returns-3 c =
+    let f = c .before .before in
+    let a = f .before .before .before .before .before .before .before .args in
+    let long = f .before .before .before .before .if1 .left ∙ f .before .before .before .before .before .size .ensures in
+    let typed = f .before .if2 .left ∙ f .before .before .letter-of .ensures in
+    sym (legal (message (a .k)) (a .s .now) long typed (sym (f .first-bad .ensures) ∙ c .enum-told .given .1))
+
+returns-4 : tie.Need-returns-4
+returns-4 c =
+    let f = c .before .before in
+    let a = f .before .before .before .before .before .before .before .args in
+    let long = f .before .before .before .before .if1 .left ∙ f .before .before .before .before .before .size .ensures in
+    let typed = f .before .if2 .left ∙ f .before .before .letter-of .ensures in
+    let bad = c .enum-told2 .given in
+    sym (bad-field (message (a .k)) (a .s .now) long typed (bad .0 .0) (sym (f .first-bad .ensures) ∙ bad .1))
+
+pub judge-spec : {M : Type 1} → statement M
+judge-spec =
+    tie.close
+    (tie.spec
+    size-requires
+    returns
+    shared-slice-read-if2
+    letter-of-requires
+    returns-2
+    first-bad-requires
+    enum-told
+    enum-told-2
+    returns-3
+    returns-4)
