@@ -1,1 +1,4 @@
 pub mod Opened
+pub mod Standing
+pub mod Moments
+pub mod Keeps

@@ -1,5 +1,5 @@
--- X (What each entry does).
-use mathlib.Core.Bool.{not, _&&_}
+-- X: an order is cut down to an intended size (What each entry does, X). The size is a total, the decrement a removed number.
+use mathlib.Core.Bool.{Bool, not, _||_}
 use Rattle.octets.specs.Choice.{firstOf_, _⇒_⨾_}
 use Rattle.wire.specs.Letters.{userRequested}
 use Rattle.wire.specs.Shares.{total, larger, _less_, _isBelow_, _equals_}
@@ -8,7 +8,11 @@ use Rattle.table.specs.Order.{isLive, isLate, isPending, rejectSent, withShares
 use Rattle.rules.specs.Plan.{ignored, changing}
 use Rattle.rules.specs.Types.{Canceled, CancelPending, CancelReject, Decision, Total, Removed, Order, CancelOrder}
 
--- liable less the larger of size and executed + self-matched
+-- Not live, intended size not below liable, or pending: 1
+unfoldable pub cancelIgnored : Order → Total → Bool
+cancelIgnored o size = not (isLive o) || not (size isBelow o .shares .liable) || isPending o
+
+-- the decrement is liable less the larger of size and executed + self-matched
 unfoldable pub decrement : Order → Total → Removed
 decrement o size = o .shares .liable less larger size (gone (o .shares))
 
@@ -16,13 +20,17 @@ decrement o size = o .shares .liable less larger size (gone (o .shares))
 unfoldable pub canceledOrder : Order → Total → Order
 canceledOrder o size = withShares o (cut (o .shares) (decrement o size))
 
+-- Late and size 0: Cancel Pending, pending set. Late, size above 0: Cancel Reject once a token, then 1
+unfoldable pub lateCancel : Order → Total → Decision
+lateCancel o size =
+    firstOf
+    size equals total 0 ⇒ changing (markedPending o) CancelPending
+    ⨾ rejectSent o ⇒ ignored
+    ⨾ changing (markedRejectSent o) CancelReject
+
 unfoldable pub cancelRule : Order → CancelOrder → Decision
 cancelRule o e =
     firstOf
-    not (isLive o) ⇒ ignored
-    ⨾ not (e .size isBelow o .shares .liable) ⇒ ignored
-    ⨾ isPending o ⇒ ignored
-    ⨾ isLate o && e .size equals total 0 ⇒ changing (markedPending o) CancelPending
-    ⨾ isLate o && rejectSent o ⇒ ignored
-    ⨾ isLate o ⇒ changing (markedRejectSent o) CancelReject
+    cancelIgnored o (e .size) ⇒ ignored
+    ⨾ isLate o ⇒ lateCancel o (e .size)
     ⨾ changing (canceledOrder o (e .size)) (Canceled (decrement o (e .size)) userRequested)

@@ -1,7 +1,6 @@
--- O (What each entry does).
+-- O: an order is entered (What each entry does, O).
 use Prim.Native.Nat.{ℕ, min}
 use mathlib.Core.Bool.{Bool, not, _&&_, _||_}
-use mathlib.Core.Option.{Option, none, some}
 use lib.Dec.{ltb, eqb}
 use Rattle.octets.specs.Choice.{pick, firstOf_, _⇒_⨾_, among}
 use Rattle.octets.specs.Bytes.{zeros}
@@ -15,7 +14,7 @@ use Rattle.table.specs.Order.{isUsed}
 use Rattle.table.specs.Header.{isOpenDay, meantFirm, isListed}
 use Rattle.rules.specs.Limits.{longestTime, immediate}
 use Rattle.rules.specs.Plan.{ignored, accepting, rejecting}
-use Rattle.rules.specs.Types.{Decision, Total, Removed, Kept, Terms, Order, Header, EnterOrder}
+use Rattle.rules.specs.Types.{Decision, Fault, Letter, Absent, Total, Removed, Kept, Terms, Order, Header, EnterOrder}
 
 -- ---- faults that O and U share
 
@@ -37,28 +36,25 @@ badMinimum minimum time shares = (ltb 0 minimum && not (eqb time immediate)) || 
 
 -- ---- the fault of an O: its letter
 
-unfoldable pub enterFault : Header → EnterOrder → Option ℕ
+unfoldable pub enterFault : Header → EnterOrder → Fault
 enterFault h e =
     firstOf
-    not (isOpenDay h) ⇒ some closed
-    ⨾ not (isListed h (meantFirm h (e .firm))) ⇒ some firmNotListed
-    ⨾ not (shaped (e .stock)) ⇒ some invalidStock
-    ⨾ not (among crosses (e .cross)) ⇒ some notInThisCross
-    ⨾ badDisplay (e .display) (e .cross) ⇒ some invalidDisplay
-    ⨾ badPrice (e .price) (e .cross) ⇒ some invalidPrice
-    ⨾ badShares h (e .shares) ⇒ some aboveThreshold
-    ⨾ badMinimum (e .minimum) (e .time) (e .shares less total 0) ⇒ some invalidMinimum
-    ⨾ none
+    not (isOpenDay h) ⇒ Letter closed
+    ⨾ not (isListed h (meantFirm h (e .firm))) ⇒ Letter firmNotListed
+    ⨾ not (shaped (e .stock)) ⇒ Letter invalidStock
+    ⨾ not (among crosses (e .cross)) ⇒ Letter notInThisCross
+    ⨾ badDisplay (e .display) (e .cross) ⇒ Letter invalidDisplay
+    ⨾ badPrice (e .price) (e .cross) ⇒ Letter invalidPrice
+    ⨾ badShares h (e .shares) ⇒ Letter aboveThreshold
+    ⨾ badMinimum (e .minimum) (e .time) (e .shares less total 0) ⇒ Letter invalidMinimum
+    ⨾ Absent
 
 -- ---- the order as accepted
 
--- time in force above 99,999 becomes 99,999
-unfoldable pub acceptedTime : ℕ → ℕ
-acceptedTime time = min time longestTime
-
-unfoldable pub enteredTerms : EnterOrder → Terms
-enteredTerms e =
-    record { price = e .price; time = acceptedTime (e .time); display = e .display; sweep = e .sweep; minimum = e .minimum }
+-- what O and U bring anew: echoed, but time in force above 99,999 becomes 99,999
+unfoldable pub acceptedTerms : ℕ → ℕ → ℕ → ℕ → ℕ → Terms
+acceptedTerms price time display sweep minimum =
+    record { price = price; time = min time longestTime; display = display; sweep = sweep; minimum = minimum }
 
 -- a blank firm becomes the default; capacity outside A P R becomes O
 unfoldable pub enteredKept : Header → EnterOrder → Kept
@@ -81,16 +77,16 @@ enteredOrder h e =
       flags = 0;
       details = record {
         kept = enteredKept h e;
-        terms = enteredTerms e;
+        terms = acceptedTerms (e .price) (e .time) (e .display) (e .sweep) (e .minimum);
         reference = h .reference;
         previous = zeros tokenSize;
         spare = 0;
       };
     }
 
-unfoldable pub enterOutcome : Header → EnterOrder → Option ℕ → Decision
-enterOutcome h e (some reason) = rejecting (e .token) reason
-enterOutcome h e none = accepting (enteredOrder h e)
+unfoldable pub enterOutcome : Header → EnterOrder → Fault → Decision
+enterOutcome h e (Letter reason) = rejecting (e .token) reason
+enterOutcome h e Absent = accepting (enteredOrder h e)
 
 -- `found` is what the entry's token means so far
 unfoldable pub enterRule : Header → Order → EnterOrder → Decision

@@ -1,6 +1,7 @@
 pub mod Types
 pub mod Limits
 pub mod Plan
+pub mod Sane
 pub mod Enter
 pub mod Replace
 pub mod Cancel

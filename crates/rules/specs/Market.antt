@@ -68,8 +68,7 @@ lateRule h o =
     firstOf
     not (isLive o) ⇒ notLive
     ⨾ not (isOpenDay h) ⇒ wrongMoment
-    ⨾ eqb (o .details .kept .cross) noCross ⇒ wrongMoment
-    ⨾ isLate o ⇒ wrongMoment
+    ⨾ eqb (o .details .kept .cross) noCross || isLate o ⇒ wrongMoment
     ⨾ changing (markedLate o) Silent
 
 -- clears late; if pending, Canceled U for all open and pending cleared

@@ -1,4 +1,4 @@
--- M (What each entry does).
+-- M: the side of an order is changed, or its shares are cut (What each entry does, M).
 use Prim.Native.Nat.{ℕ}
 use mathlib.Core.Bool.{Bool, not, _&&_, _||_}
 use lib.Dec.{eqb}
@@ -19,14 +19,21 @@ sideAllowed before after = eqb before after || (among sellSides before && among 
 unfoldable pub modifiedOrder : Order → ModifyOrder → Order
 modifiedOrder o e = withShares (withSide o (e .side)) (withLiable (o .shares) (e .shares))
 
+-- 1 if not live, day not open, late, side neither the same nor a change among S T E, shares not above executed + self-matched or above
+-- liable, or nothing would change
+unfoldable pub modifyIgnored : Header → Order → ModifyOrder → Bool
+modifyIgnored h o e =
+    not (isLive o)
+    || not (isOpenDay h)
+    || isLate o
+    || not (sideAllowed (o .side) (e .side))
+    || not (gone (o .shares) isBelow e .shares)
+    || (o .shares .liable isBelow e .shares)
+    || (eqb (o .side) (e .side) && o .shares .liable equals e .shares)
+
+-- Otherwise side and liable are stored, and Modified shows the new open
 unfoldable pub modifyRule : Header → Order → ModifyOrder → Decision
 modifyRule h o e =
     firstOf
-    not (isLive o) ⇒ ignored
-    ⨾ not (isOpenDay h) ⇒ ignored
-    ⨾ isLate o ⇒ ignored
-    ⨾ not (sideAllowed (o .side) (e .side)) ⇒ ignored
-    ⨾ not (gone (o .shares) isBelow e .shares) ⇒ ignored
-    ⨾ o .shares .liable isBelow e .shares ⇒ ignored
-    ⨾ eqb (o .side) (e .side) && (o .shares .liable equals e .shares) ⇒ ignored
+    modifyIgnored h o e ⇒ ignored
     ⨾ changing (modifiedOrder o e) Modified

@@ -18,6 +18,8 @@ pub use Rattle.table.specs.declared.order.Kept.{Kept}
 pub use Rattle.table.specs.declared.order.Terms.{Terms}
 pub use Rattle.table.specs.declared.order.Details.{Details}
 pub use Rattle.table.specs.declared.order.Order.{Order}
+pub use Rattle.rules.specs.declared.enter.Fault.{Fault}
+pub use Rattle.rules.specs.declared.enter.Fault.the-variants.{Letter, Absent}
 pub use Rattle.rules.specs.declared.plan.Decision.{Decision}
 pub use Rattle.rules.specs.declared.plan.Notice.{Notice}
 pub use Rattle.rules.specs.declared.plan.Notice.the-variants.{Accepted, AiqCancelled, CancelPending, CancelReject, Canceled, Executed, Modified, PriorityUpdate, Rejected, Replaced, Silent, SystemEvent}

@@ -1,2 +1,7 @@
-// What each entry does: header, orders and entry as values in, a plan out. No rule sees a byte or the ring.
+// What each entry does: header, orders and entry as values in, a plan out. No rule sees a byte of the table or the ring.
+pub mod cancel;
+pub mod enter;
+pub mod market;
+pub mod modify;
 pub mod plan;
+pub mod replace;

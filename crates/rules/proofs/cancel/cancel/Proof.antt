@@ -1,0 +1,66 @@
+-- Each return is the guard that its tests led to; what is not ignored is live, so something of it is open. Assumes nothing.
+use native.Mathlib.Omega.{arith}
+use Rattle.octets.proofs.Guards.{answered}
+use Rattle.rules.specs.Cancel.{cancelRule}
+use Rattle.rules.proofs.Moments.{cancel-live, cancel-smaller}
+use borrow.Author.Needs.{needs}
+use Rattle.rules.proofs.cancel.cancel.Statement.{statement}
+use Rattle.rules.proofs.cancel.cancel.Tie as tie
+
+cancel-ignored-requires : tie.Need-cancel-ignored-requires
+cancel-ignored-requires c κs = search needs
+
+refused-requires : tie.Need-refused-requires
+refused-requires c κs = search needs
+
+returns : tie.Need-returns
+unfolding cancelRule
+returns c = simp (c .refused .ensures, answered (c .before .before .cancel-ignored .ensures) (c .before .if1 .taken))
+
+is-late-requires : tie.Need-is-late-requires
+is-late-requires c κs = search needs
+
+cancel-late-requires : tie.Need-cancel-late-requires
+cancel-late-requires c κs = search needs
+
+returns-2 : tie.Need-returns-2
+unfolding cancelRule
+returns-2 c = simp (c .cancel-late .ensures, answered (c .before .before .before .before .cancel-ignored .ensures) (c .before .before .before .if1 .left), answered (c .before .before .is-late .ensures) (c .before .if2 .taken))
+
+decrement-requires : tie.Need-decrement-requires
+decrement-requires c κs =
+    let heard = answered (c .before .before .before .cancel-ignored .ensures) (c .before .before .if1 .left) in
+    let shares = c .before .before .before .before .pre (cancel-live _ _ heard) in
+    let smaller = cancel-smaller _ _ heard in
+    (omega arith, smaller)
+
+canceled-order-requires : tie.Need-canceled-order-requires
+canceled-order-requires c κs =
+    let heard = answered (c .before .before .before .before .cancel-ignored .ensures) (c .before .before .before .if1 .left) in
+    let shares = c .before .before .before .before .before .pre (cancel-live _ _ heard) in
+    let smaller = cancel-smaller _ _ heard in
+    (omega arith, smaller)
+
+changing-requires : tie.Need-changing-requires
+changing-requires c κs = search needs
+
+returns-3 : tie.Need-returns-3
+unfolding cancelRule
+returns-3 c =
+    simp
+    (c .changing .ensures, c .before .canceled-order .ensures, c .before .before .decrement .ensures, answered (c .before .before .before .before .before .before .cancel-ignored .ensures) (c .before .before .before .before .before .if1 .left), answered (c .before .before .before .before .is-late .ensures) (c .before .before .before .if2 .left))
+
+pub cancel-spec : {M : Type 1} → statement M
+cancel-spec =
+    tie.close
+    (tie.spec
+    cancel-ignored-requires
+    refused-requires
+    returns
+    is-late-requires
+    cancel-late-requires
+    returns-2
+    decrement-requires
+    canceled-order-requires
+    changing-requires
+    returns-3)
