@@ -4,15 +4,23 @@ use crate::entry::Execution;
 use crate::entry::Priority;
 use crate::entry::SelfMatch;
 use crate::entry::System;
+use inbound::cancel_order::CancelOrder;
+use inbound::cancel_order::parse_cancel_order;
+use inbound::enter_order::EnterOrder;
+use inbound::enter_order::parse_enter_order;
+use inbound::modify_order::ModifyOrder;
+use inbound::modify_order::parse_modify_order;
+use inbound::replace_order::ReplaceOrder;
+use inbound::replace_order::parse_replace_order;
 use octets::be32;
 use octets::be64;
 use octets::byte_at;
 use octets::bytes14_at;
 use wire::shares::Removed;
 ghost use mathlib.Core.Path.{_≡_};
-ghost use Prim.Native.Nat.{_≤_};
+ghost use Prim.Native.Nat.{_+_, _≤_};
 ghost use lib.ListN.{length};
-ghost use Rattle.tape.specs.Entries.{stampOf, tokenOf, executionOf, bookCancelOf, selfMatchOf, priorityOf, systemOf};
+ghost use Rattle.tape.specs.Entries.{stampOf, tokenOf, executionOf, bookCancelOf, selfMatchOf, priorityOf, systemOf, messageIn, enterOf, replaceOf, cancelOf, modifyOf};
 
 // Every body opens with a stamp.
 pub fn stamp_of(entry: &[u8]) -> u64
@@ -80,4 +88,40 @@ pub fn system_of(entry: &[u8]) -> System
     System {
         event: byte_at(entry, 9),
     }
+}
+
+// From its eighth byte on an entry of a client is the client's message, but for the type's byte, at which no parser looks.
+fn message_in(entry: &[u8]) -> &[u8]
+    requires { ⌜ 8 ≤ length (now entry) ⌝ }
+    ensures { λ r. ⌜ (now r ≡ messageIn (now (entry .entry))) × (length (now r) + 8 ≡ length (now (entry .entry))) ⌝ }
+{
+    &entry[8..]
+}
+
+pub fn enter_of(entry: &[u8]) -> EnterOrder
+    requires { ⌜ length (now entry) ≡ 56 ⌝ }
+    ensures { λ r. ⌜ r ≡ enterOf (now (entry .entry)) ⌝ }
+{
+    parse_enter_order(message_in(entry))
+}
+
+pub fn replace_of(entry: &[u8]) -> ReplaceOrder
+    requires { ⌜ length (now entry) ≡ 55 ⌝ }
+    ensures { λ r. ⌜ r ≡ replaceOf (now (entry .entry)) ⌝ }
+{
+    parse_replace_order(message_in(entry))
+}
+
+pub fn cancel_of(entry: &[u8]) -> CancelOrder
+    requires { ⌜ length (now entry) ≡ 27 ⌝ }
+    ensures { λ r. ⌜ r ≡ cancelOf (now (entry .entry)) ⌝ }
+{
+    parse_cancel_order(message_in(entry))
+}
+
+pub fn modify_of(entry: &[u8]) -> ModifyOrder
+    requires { ⌜ length (now entry) ≡ 28 ⌝ }
+    ensures { λ r. ⌜ r ≡ modifyOf (now (entry .entry)) ⌝ }
+{
+    parse_modify_order(message_in(entry))
 }
