@@ -1,2 +1,6 @@
 pub mod Flags
 pub mod Runs
+pub mod Judged
+pub mod Tokens
+pub mod Soundness
+pub mod Freshness
