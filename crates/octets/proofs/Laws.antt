@@ -4,6 +4,7 @@ use Prim.Native.Nat.{ℕ, zero, suc, _+_, _-_, _*_, _/_, _%_, _^_, _≤_, _<_}
 use native.Mathlib.Nat.{mod-eq-of-lt, div-add-mod', add-suc, add-zero, zero-add, pow-suc, add-sub-of-le, add-sub-cancel-left, sub-zero}
 use native.Mathlib.Numerals.{add-one}
 use native.Mathlib.Omega.{arith}
+use lib.Arith.{digits-div, digits-mod}
 use lib.Dec.{lit<}
 use mathlib.Core.List.{List, [], _∷_, _++_, append-assoc, append-nil, map}
 use lib.ListN.{length, take, drop, getD, set, length-append, length-take, length-drop, length-set, take-append-drop, drop-of-length-le, List·getD-eq-default}
@@ -257,3 +258,16 @@ take-past xs ys m =
     take-append-past (x ∷ xs) ys (suc n) h =
         let e : n - length xs ≡ suc n - suc (length xs) = omega arith in
         ap (λ (l : List ℕ). x ∷ l) (take-append-past xs ys n (omega arith) ∙ ap (λ (k : ℕ). xs ++ take k ys) e)
+
+-- bytes that are read as a number and spelled again
+pub digits-number : (xs : List ℕ) → ((k : ℕ) → getD xs k 0 < 256) → (n : ℕ) → n ≤ length xs → digits n (numberOf (take n xs)) ≡ take n xs
+unfolding digits numberOf
+digits-number xs b zero h = refl
+digits-number xs b (suc n) h =
+    let x : ℕ = getD xs n 0 in
+    let v : ℕ = numberOf (take n xs) in
+    let e : numberOf (take (suc n) xs) ≡ v * 256 + x = ap numberOf (take-suc xs n 0 h) ∙ number-snoc 0 (take n xs) x in
+    ap (λ (m : ℕ). digits n (m / 256) ++ ((m % 256) ∷ [])) e
+    ∙ ap₂ (λ (q r : ℕ). digits n q ++ (r ∷ [])) (digits-div v (b n)) (digits-mod v (b n))
+    ∙ ap (λ (l : List ℕ). l ++ (x ∷ [])) (digits-number xs b n (omega arith))
+    ∙ sym (take-suc xs n 0 h)

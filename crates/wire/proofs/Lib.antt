@@ -2,3 +2,10 @@ pub mod Shapes
 pub mod Tokens
 pub mod Numbered
 pub mod Verdicts
+pub mod Layouts
+pub mod Says
+pub mod FirstNot
+pub mod BadPlaces
+pub mod Exactly
+pub mod Runs
+pub mod RoundTrips

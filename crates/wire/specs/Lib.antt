@@ -5,3 +5,4 @@ pub mod Shares
 pub mod Price
 pub mod Layout
 pub mod Messages
+pub mod Legal
