@@ -1,7 +1,7 @@
 -- The laws of parts, of parts replaced, and of big-endian numbers, each over every width. Assumes nothing.
 use mathlib.Core.Path.{_≡_, refl, sym, ap, ap₂, _∙_, subst}
 use Prim.Native.Nat.{ℕ, zero, suc, _+_, _-_, _*_, _/_, _%_, _^_, _≤_, _<_}
-use native.Mathlib.Nat.{mod-eq-of-lt, div-add-mod', add-suc, add-zero, zero-add, pow-suc, add-sub-of-le, add-sub-cancel-left}
+use native.Mathlib.Nat.{mod-eq-of-lt, div-add-mod', add-suc, add-zero, zero-add, pow-suc, add-sub-of-le, add-sub-cancel-left, sub-zero}
 use native.Mathlib.Numerals.{add-one}
 use native.Mathlib.Omega.{arith}
 use lib.Arith.{digits-div, digits-mod}
@@ -11,7 +11,7 @@ use lib.ListN.{length, take, drop, getD, set, length-append, length-take, length
 use native.Mathlib.Decide.{decLt}
 use mathlib.Core.Logic.{_⊎_, ⊎-elim}
 use lib.Seq.{getD-take, take-at, take-suc, take-length, getD-drop, drop-at, take-append-seam, drop-append-le, take-append-le, length-take-le, drop-drop, take-set-le, drop-cons, drop-set-lt, getD-set-same}
-use Rattle.octets.specs.Bytes.{part, put, numberFrom, numberOf, numberAt, digits, joined}
+use Rattle.octets.specs.Bytes.{part, put, numberFrom, numberOf, numberAt, digits, zeros, joined}
 
 -- numbers
 
@@ -236,6 +236,32 @@ number-byte xs k h =
 pub digits-byte : (b : ℕ) → b < 256 → digits 1 b ≡ b ∷ []
 unfolding digits
 digits-byte b h = ap (λ (x : ℕ). x ∷ []) (mod-eq-of-lt h)
+
+-- ---- zeros
+
+pub take-zeros : (m n : ℕ) → m ≤ n → take m (zeros n) ≡ zeros m
+take-zeros zero n h = refl
+take-zeros (suc m) zero h = absurd (omega arith)
+take-zeros (suc m) (suc n) h = ap (λ (l : List ℕ). 0 ∷ l) (take-zeros m n (omega arith))
+
+pub drop-zeros : (m n : ℕ) → m ≤ n → drop m (zeros n) ≡ zeros (n - m)
+drop-zeros zero n h = ap (λ (k : ℕ). zeros k) (sym (sub-zero n))
+drop-zeros (suc m) zero h = absurd (omega arith)
+drop-zeros (suc m) (suc n) h =
+    let e : n - m ≡ suc n - suc m = omega arith in
+    drop-zeros m n (omega arith) ∙ ap (λ (k : ℕ). zeros k) e
+
+-- ys behind xs, cut m bytes behind xs
+pub take-past : (xs ys : List ℕ) (m : ℕ) → take (length xs + m) (xs ++ ys) ≡ xs ++ take m ys
+take-past xs ys m =
+    take-append-past xs ys (length xs + m) (omega arith) ∙ ap (λ (k : ℕ). xs ++ take k ys) (add-sub-cancel-left (length xs) m)
+  where
+    take-append-past : (xs ys : List ℕ) (n : ℕ) → length xs ≤ n → take n (xs ++ ys) ≡ xs ++ take (n - length xs) ys
+    take-append-past [] ys n h = ap (λ (k : ℕ). take k ys) (sym (sub-zero n))
+    take-append-past (x ∷ xs) ys zero h = absurd (omega arith)
+    take-append-past (x ∷ xs) ys (suc n) h =
+        let e : n - length xs ≡ suc n - suc (length xs) = omega arith in
+        ap (λ (l : List ℕ). x ∷ l) (take-append-past xs ys n (omega arith) ∙ ap (λ (k : ℕ). xs ++ take k ys) e)
 
 -- bytes that are read as a number and spelled again
 pub digits-number : (xs : List ℕ) → ((k : ℕ) → getD xs k 0 < 256) → (n : ℕ) → n ≤ length xs → digits n (numberOf (take n xs)) ≡ take n xs
