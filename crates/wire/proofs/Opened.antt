@@ -1,9 +1,10 @@
 -- Everything that specs/ defines, open at once, for proofs by computation. Assumes nothing.
 use Rattle.wire.specs.Text.{capital, small, digit, tokenByte, capitalsThenSpaces, shaped}
 use Rattle.wire.specs.Price.{goodPrice, pricedOf}
-use Rattle.wire.specs.Layout.{badTokenByte, nonZeroByte, badPlace, firstBadPlace, noBadPlace, layoutFor, spell, unbroken, wellLaid}
-use Rattle.wire.specs.Messages.{readAnswer, readMessage, writeAnswer, writeMessage}
+use Rattle.wire.specs.Layout.{badTokenByte, nonZeroByte, badPlace, firstBadPlace, noBadPlace, layoutFor, spell, unbroken, wellLaid, gapsAreZero}
+use Rattle.wire.specs.Messages.{lengthFor, readAnswer, legalOrZeros, writeAnswer, written}
+use Rattle.wire.specs.Legal.{Obeys, BadByte}
 
 unfoldable pub opened : Unit {0}
-unfolding capital small digit tokenByte capitalsThenSpaces shaped goodPrice pricedOf badTokenByte nonZeroByte badPlace firstBadPlace noBadPlace layoutFor spell unbroken wellLaid readAnswer readMessage writeAnswer writeMessage
+unfolding capital small digit tokenByte capitalsThenSpaces shaped goodPrice pricedOf badTokenByte nonZeroByte badPlace firstBadPlace noBadPlace layoutFor spell unbroken wellLaid gapsAreZero lengthFor readAnswer legalOrZeros writeAnswer written Obeys BadByte
 opened = tt
