@@ -7,18 +7,18 @@ use Rattle.wire.specs.Faithful.{Faithful}
 use Rattle.wire.proofs.RoundTrips.{faithful}
 use Rattle.inbound.specs.Inbound.{enterOrderOf, enterOrderBytes, enterOrderMade, enterOrderValues, readEnterOrder, replaceOrderOf, replaceOrderBytes, replaceOrderMade, replaceOrderValues, readReplaceOrder, cancelOrderOf, cancelOrderBytes, cancelOrderMade, cancelOrderValues, readCancelOrder, modifyOrderOf, modifyOrderBytes, modifyOrderMade, modifyOrderValues, readModifyOrder}
 
-pub enter-order : Faithful enterOrder enterOrderOf enterOrderBytes enterOrderValues readEnterOrder
+pub enter-order-faithful : Faithful enterOrder enterOrderOf enterOrderBytes enterOrderValues readEnterOrder
 unfolding enterOrderOf enterOrderBytes wellLaid unbroken gapsAreZero
-enter-order = faithful enterOrder refl refl enterOrderMade enterOrderValues readEnterOrder (λ m. refl) (λ v. refl)
+enter-order-faithful = faithful enterOrder refl refl enterOrderMade enterOrderValues readEnterOrder (λ m. refl) (λ v. refl)
 
-pub replace-order : Faithful replaceOrder replaceOrderOf replaceOrderBytes replaceOrderValues readReplaceOrder
+pub replace-order-faithful : Faithful replaceOrder replaceOrderOf replaceOrderBytes replaceOrderValues readReplaceOrder
 unfolding replaceOrderOf replaceOrderBytes wellLaid unbroken gapsAreZero
-replace-order = faithful replaceOrder refl refl replaceOrderMade replaceOrderValues readReplaceOrder (λ m. refl) (λ v. refl)
+replace-order-faithful = faithful replaceOrder refl refl replaceOrderMade replaceOrderValues readReplaceOrder (λ m. refl) (λ v. refl)
 
-pub cancel-order : Faithful cancelOrder cancelOrderOf cancelOrderBytes cancelOrderValues readCancelOrder
+pub cancel-order-faithful : Faithful cancelOrder cancelOrderOf cancelOrderBytes cancelOrderValues readCancelOrder
 unfolding cancelOrderOf cancelOrderBytes wellLaid unbroken gapsAreZero
-cancel-order = faithful cancelOrder refl refl cancelOrderMade cancelOrderValues readCancelOrder (λ m. refl) (λ v. refl)
+cancel-order-faithful = faithful cancelOrder refl refl cancelOrderMade cancelOrderValues readCancelOrder (λ m. refl) (λ v. refl)
 
-pub modify-order : Faithful modifyOrder modifyOrderOf modifyOrderBytes modifyOrderValues readModifyOrder
+pub modify-order-faithful : Faithful modifyOrder modifyOrderOf modifyOrderBytes modifyOrderValues readModifyOrder
 unfolding modifyOrderOf modifyOrderBytes wellLaid unbroken gapsAreZero
-modify-order = faithful modifyOrder refl refl modifyOrderMade modifyOrderValues readModifyOrder (λ m. refl) (λ v. refl)
+modify-order-faithful = faithful modifyOrder refl refl modifyOrderMade modifyOrderValues readModifyOrder (λ m. refl) (λ v. refl)

@@ -1,0 +1,58 @@
+-- A run of puts, a field each, in the layout's order. Assumes nothing.
+use mathlib.Core.Path.{refl}
+use borrow.Author.Needs.{needs}
+use lib.Dec.{lit<, lit≤}
+use Rattle.wire.specs.Layout.{wellLaid, unbroken}
+use Rattle.wire.specs.Messages.{executed}
+use Rattle.wire.proofs.Runs.{ran}
+use Rattle.outbound.specs.Outbound.{executedBytes, executedValues}
+use Rattle.outbound.proofs.executed.spell_executed.Statement.{statement}
+use Rattle.outbound.proofs.executed.spell_executed.Tie as tie
+
+put-letter-requires : tie.Need-put-letter-requires
+put-letter-requires c κs = search needs
+
+put-long-requires : tie.Need-put-long-requires
+put-long-requires c κs = search needs
+
+put-token-requires : tie.Need-put-token-requires
+put-token-requires c κs = search needs
+
+put-integer-requires : tie.Need-put-integer-requires
+put-integer-requires c κs = search needs
+
+put-integer-requires-2 : tie.Need-put-integer-requires-2
+put-integer-requires-2 c κs = search needs
+
+put-letter-requires-2 : tie.Need-put-letter-requires-2
+put-letter-requires-2 c κs = search needs
+
+put-long-requires-2 : tie.Need-put-long-requires-2
+put-long-requires-2 c κs = search needs
+
+returns : tie.Need-returns
+unfolding executedBytes wellLaid unbroken
+returns c =
+    let match-number = c in
+    let flag = match-number .before .before in
+    let price = flag .before .before in
+    let shares = price .before .before in
+    let token = shares .before .before in
+    let stamp = token .before .before in
+    let letter = stamp .before .before in
+    let m = letter .before .before .before .args .m in
+    ran executed refl (lit< tt) (lit≤ tt) (executedValues m) _ _ (letter .put-letter .ensures)
+    (_, (stamp .put-long .ensures, (_, (token .put-token .ensures, (_, (shares .put-integer .ensures, (_, (price .put-integer2 .ensures, (_, (flag .put-letter2 .ensures, (_, (match-number .put-long2 .ensures, refl))))))))))))
+
+pub spell-executed-spec : {M : Type 1} → statement M
+spell-executed-spec =
+    tie.close
+    (tie.spec
+    put-letter-requires
+    put-long-requires
+    put-token-requires
+    put-integer-requires
+    put-integer-requires-2
+    put-letter-requires-2
+    put-long-requires-2
+    returns)

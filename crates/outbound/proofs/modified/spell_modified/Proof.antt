@@ -1,0 +1,48 @@
+-- A run of puts, a field each, in the layout's order. Assumes nothing.
+use mathlib.Core.Path.{refl}
+use borrow.Author.Needs.{needs}
+use lib.Dec.{lit<, lit≤}
+use Rattle.wire.specs.Layout.{wellLaid, unbroken}
+use Rattle.wire.specs.Messages.{modified}
+use Rattle.wire.proofs.Runs.{ran}
+use Rattle.outbound.specs.Outbound.{modifiedBytes, modifiedValues}
+use Rattle.outbound.proofs.modified.spell_modified.Statement.{statement}
+use Rattle.outbound.proofs.modified.spell_modified.Tie as tie
+
+put-letter-requires : tie.Need-put-letter-requires
+put-letter-requires c κs = search needs
+
+put-long-requires : tie.Need-put-long-requires
+put-long-requires c κs = search needs
+
+put-token-requires : tie.Need-put-token-requires
+put-token-requires c κs = search needs
+
+put-letter-requires-2 : tie.Need-put-letter-requires-2
+put-letter-requires-2 c κs = search needs
+
+put-integer-requires : tie.Need-put-integer-requires
+put-integer-requires c κs = search needs
+
+returns : tie.Need-returns
+unfolding modifiedBytes wellLaid unbroken
+returns c =
+    let shares = c in
+    let side = shares .before .before in
+    let token = side .before .before in
+    let stamp = token .before .before in
+    let letter = stamp .before .before in
+    let m = letter .before .before .before .args .m in
+    ran modified refl (lit< tt) (lit≤ tt) (modifiedValues m) _ _ (letter .put-letter .ensures)
+    (_, (stamp .put-long .ensures, (_, (token .put-token .ensures, (_, (side .put-letter2 .ensures, (_, (shares .put-integer .ensures, refl))))))))
+
+pub spell-modified-spec : {M : Type 1} → statement M
+spell-modified-spec =
+    tie.close
+    (tie.spec
+    put-letter-requires
+    put-long-requires
+    put-token-requires
+    put-letter-requires-2
+    put-integer-requires
+    returns)

@@ -1,0 +1,53 @@
+-- A run of puts, a field each, in the layout's order. Assumes nothing.
+use mathlib.Core.Path.{refl}
+use borrow.Author.Needs.{needs}
+use lib.Dec.{lit<, lit≤}
+use Rattle.wire.specs.Layout.{wellLaid, unbroken}
+use Rattle.wire.specs.Messages.{priorityUpdate}
+use Rattle.wire.proofs.Runs.{ran}
+use Rattle.outbound.specs.Outbound.{priorityUpdateBytes, priorityUpdateValues}
+use Rattle.outbound.proofs.priority_update.spell_priority_update.Statement.{statement}
+use Rattle.outbound.proofs.priority_update.spell_priority_update.Tie as tie
+
+put-letter-requires : tie.Need-put-letter-requires
+put-letter-requires c κs = search needs
+
+put-long-requires : tie.Need-put-long-requires
+put-long-requires c κs = search needs
+
+put-token-requires : tie.Need-put-token-requires
+put-token-requires c κs = search needs
+
+put-integer-requires : tie.Need-put-integer-requires
+put-integer-requires c κs = search needs
+
+put-letter-requires-2 : tie.Need-put-letter-requires-2
+put-letter-requires-2 c κs = search needs
+
+put-long-requires-2 : tie.Need-put-long-requires-2
+put-long-requires-2 c κs = search needs
+
+returns : tie.Need-returns
+unfolding priorityUpdateBytes wellLaid unbroken
+returns c =
+    let reference = c in
+    let display = reference .before .before in
+    let price = display .before .before in
+    let token = price .before .before in
+    let stamp = token .before .before in
+    let letter = stamp .before .before in
+    let m = letter .before .before .before .args .m in
+    ran priorityUpdate refl (lit< tt) (lit≤ tt) (priorityUpdateValues m) _ _ (letter .put-letter .ensures)
+    (_, (stamp .put-long .ensures, (_, (token .put-token .ensures, (_, (price .put-integer .ensures, (_, (display .put-letter2 .ensures, (_, (reference .put-long2 .ensures, refl))))))))))
+
+pub spell-priority-update-spec : {M : Type 1} → statement M
+spell-priority-update-spec =
+    tie.close
+    (tie.spec
+    put-letter-requires
+    put-long-requires
+    put-token-requires
+    put-integer-requires
+    put-letter-requires-2
+    put-long-requires-2
+    returns)
