@@ -12,7 +12,7 @@ use lib.ListN.{length, getD}
 use borrow.Author.Tests.{eqb-true, eqb-false}
 use Rattle.answers.specs.declared.Answer.{Answer}
 use Rattle.answers.specs.declared.Answer.the-variants.{Done, Malformed, BadField}
-use Rattle.wire.specs.Layout.{Layout, place, firstBadPlace, wellLaid, spell}
+use Rattle.wire.specs.Layout.{Layout, isNone, firstBadPlace, noBadPlace, wellLaid}
 use Rattle.wire.specs.Messages.{readAnswer}
 use Rattle.wire.specs.Legal.{AllObey, Legal, FirstBad, _exactlyWhen_}
 use Rattle.wire.proofs.Says.{seen}
@@ -28,8 +28,9 @@ pub data Way (l : Layout) (s : List ℕ) : Type 0 where
 
 module _ (l : Layout) (s : List ℕ) where
   judged : length s ≡ l .size → getD s 0 0 ≡ l .code → (o : Option ℕ) → firstBadPlace (l .fields) s ≡ o → Way l s
-  judged e t none p = done (legal l s e t (ap place p)) (record { long = e; typed = t; judged = all-obey (l .fields) s p })
-  judged e t (some i) p = bad (bad-field l s e t i (ap place p)) e t (λ h. no-place (sym (no-bad-place (l .fields) s h) ∙ p))
+  unfolding noBadPlace
+  judged e t none p = done (legal l s e t (ap isNone p)) (record { long = e; typed = t; judged = all-obey (l .fields) s p })
+  judged e t (some i) p = bad (bad-field l s e t (ap isNone p)) e t (λ h. no-place (sym (no-bad-place (l .fields) s h) ∙ p))
 
   pub way : Way l s
   way =
@@ -43,7 +44,8 @@ module _ (l : Layout) (s : List ℕ) where
       (seen (eqb (length s) (l .size)))
 
   pub done-exactly : (readAnswer l s ≡ Done) exactlyWhen Legal l s
-  done-exactly = (λ a. from a way, λ h. legal l s (h .long) (h .typed) (ap place (no-bad-place (l .fields) s (h .judged))))
+  unfolding noBadPlace
+  done-exactly = (λ a. from a way, λ h. legal l s (h .long) (h .typed) (ap isNone (no-bad-place (l .fields) s (h .judged))))
     where
       from : readAnswer l s ≡ Done → Way l s → Legal l s
       from a (malformed e h) = let z : _≡_ {A = ℕ} 0 1 = cc in absurd (omega arith)
