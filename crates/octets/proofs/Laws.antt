@@ -233,6 +233,13 @@ pub digits-byte : (b : ℕ) → b < 256 → digits 1 b ≡ b ∷ []
 unfolding digits
 digits-byte b h = ap (λ (x : ℕ). x ∷ []) (mod-eq-of-lt h)
 
+-- what was there already
+pub put-part : (xs : List ℕ) (at n : ℕ) → at + n ≤ length xs → put xs at (part xs at n) ≡ xs
+put-part xs at n h =
+    ap (λ (k : ℕ). take at xs ++ (part xs at n ++ drop (at + k) xs)) (length-part xs at n h)
+    ∙ ap (λ (l : List ℕ). take at xs ++ (part xs at n ++ l)) (sym (drop-drop n at xs))
+    ∙ ap (λ (l : List ℕ). take at xs ++ l) (take-append-drop n (drop at xs)) ∙ take-append-drop at xs
+
 -- ---- zeros
 
 pub take-zeros : (m n : ℕ) → m ≤ n → take m (zeros n) ≡ zeros m
