@@ -2,3 +2,4 @@ pub mod Opened
 pub mod Standing
 pub mod Moments
 pub mod Keeps
+pub mod Spelled
