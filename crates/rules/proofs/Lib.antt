@@ -3,3 +3,4 @@ pub mod Standing
 pub mod Moments
 pub mod Keeps
 pub mod Spelled
+pub mod Told
