@@ -89,11 +89,8 @@ worldAfter w s p =
       marks = marksWith (w .marks) (length (message (stampOf s) p));
     }
 
--- ---- the answers
-
--- only 0 changes anything
-abbrev pub unchanged : World → Answer → Stepped
-unchanged w a = record { answer = a; world = w }
+-- ---- what an entry comes to: answers 2 3 4 1 5 7 6 8, from the table and the entry alone. The ring is not looked at, which is why an
+-- entry that is blocked comes to the same when it is offered again
 
 -- 8: a token must be stored and no record is free, or a reference is needed and the next is 10^18
 unfoldable pub noRecordFree : List ℕ → Plan → Bool
@@ -102,25 +99,47 @@ noRecordFree t p = isUsed (p .added) && leb (recordsIn t) (header t .used)
 unfoldable pub noReferenceLeft : List ℕ → Plan → Bool
 noReferenceLeft t p = p .numbered && eqb (header t .reference) endOfReferences
 
+unfoldable pub withinLimits : List ℕ → Decision → Decision
+withinLimits t d =
+    firstOf
+    not (isDone (d .answer)) ⇒ d
+    ⨾ noRecordFree t (d .plan) ⇒ refused Full
+    ⨾ noReferenceLeft t (d .plan) ⇒ refused Full
+    ⨾ d
+
+unfoldable pub comesTo : List ℕ → List ℕ → Decision
+comesTo t s =
+    firstOf
+    not (wellFormed s) ⇒ refused Malformed
+    ⨾ not (allLegal s) ⇒ refused BadField
+    ⨾ ltb (stampOf s) (header t .last) ⇒ refused TooEarly
+    ⨾ withinLimits t (decide t s)
+
+-- ---- the step
+
+-- only 0 changes anything
+abbrev pub unchanged : World → Answer → Stepped
+unchanged w a = record { answer = a; world = w }
+
 -- 9: the message is longer than ring length less held count
 unfoldable pub noRoom : World → List ℕ → Plan → Bool
 noRoom w s p = ltb (freeBytes (length (w .ring)) (w .marks)) (length (message (stampOf s) p))
 
+-- the one place where room is asked for, and the one place where anything is written
 unfoldable pub settle : World → List ℕ → Decision → Stepped
 settle w s d =
     firstOf
     not (isDone (d .answer)) ⇒ unchanged w (d .answer)
-    ⨾ noRecordFree (w .table) (d .plan) ⇒ unchanged w Full
-    ⨾ noReferenceLeft (w .table) (d .plan) ⇒ unchanged w Full
     ⨾ noRoom w s (d .plan) ⇒ unchanged w Blocked
     ⨾ record { answer = Done; world = worldAfter w s (d .plan) }
+
+-- what a step does once table and ring are judged
+unfoldable pub offer : World → List ℕ → Stepped
+offer w s = settle w s (comesTo (w .table) s)
 
 unfoldable pub step : World → List ℕ → Stepped
 step w s =
     firstOf
     not (sound (w .table)) ⇒ unchanged w NotSound
     ⨾ not (ringGood (length (w .ring)) (w .marks)) ⇒ unchanged w WrongRing
-    ⨾ not (wellFormed s) ⇒ unchanged w Malformed
-    ⨾ not (allLegal s) ⇒ unchanged w BadField
-    ⨾ ltb (stampOf s) (header (w .table) .last) ⇒ unchanged w TooEarly
-    ⨾ settle w s (decide (w .table) s)
+    ⨾ offer w s

@@ -1,1 +1,12 @@
 pub mod Opened
+pub mod Ring
+pub mod Right
+pub mod Guards
+pub mod Lists
+pub mod With
+pub mod Runs
+pub mod Bytes
+pub mod Held
+pub mod Board
+pub mod Drain
+pub mod Unique

@@ -1,2 +1,5 @@
 pub mod Limits
 pub mod Outbox
+pub mod Runs
+pub mod Place
+pub mod Drain

@@ -2,5 +2,6 @@ pub mod Limits
 pub mod Counts
 pub mod Order
 pub mod Header
+pub mod Runs
 pub mod Table
 pub mod Fresh

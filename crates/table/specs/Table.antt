@@ -1,5 +1,5 @@
 -- The table: its bytes, when they are sound, which record a token means, and how a value is stored (Table and outbox).
-use Prim.Native.Nat.{ℕ, zero, suc, _+_, _-_, _*_, _/_}
+use Prim.Native.Nat.{ℕ, zero, suc, _+_, _-_, _*_, _/_, _≤_}
 use mathlib.Core.Bool.{Bool, _&&_}
 use mathlib.Core.List.{List, [], _∷_}
 use lib.ListN.{length, take}
@@ -22,6 +22,10 @@ sizeGood t =
 unfoldable pub recordPlace : ℕ → ℕ
 recordPlace i = headerSize + recordSize * i
 
+-- record i lies in the table
+abbrev pub HasRecord : List ℕ → ℕ → Type 0
+HasRecord t i = headerSize + recordSize * i + recordSize ≤ length t
+
 unfoldable pub recordBytes : List ℕ → ℕ → List ℕ
 recordBytes t i = part t (recordPlace i) recordSize
 
@@ -30,6 +34,10 @@ header t = headerOf (take headerSize t)
 
 unfoldable pub orderAt : List ℕ → ℕ → Order
 orderAt t i = orderOf (recordBytes t i)
+
+-- the used records lie in the table
+abbrev pub HasUsed : List ℕ → Type 0
+HasUsed t = headerSize + recordSize * header t .used ≤ length t
 
 unfoldable pub sound : List ℕ → Bool
 sound t =
@@ -51,8 +59,12 @@ placeFrom t token (suc left) i =
 unfoldable pub placeOf : List ℕ → List ℕ → ℕ
 placeOf t token = placeFrom t token (header t .used) 0
 
+-- the order at a place so found
+unfoldable pub orderFrom : List ℕ → ℕ → Order
+orderFrom t i = pick (ltb i (header t .used)) (orderAt t i) noOrder
+
 unfoldable pub orderNamed : List ℕ → List ℕ → Order
-orderNamed t token = pick (ltb (placeOf t token) (header t .used)) (orderAt t (placeOf t token)) noOrder
+orderNamed t token = orderFrom t (placeOf t token)
 
 -- ---- storing
 

@@ -1,9 +1,11 @@
-// The table's header as a value.
+// The table's header as a value, read from its 64 bytes and spelled as them, and the firms that it lists.
 ghost use mathlib.Core.Path.{_≡_};
 ghost use Prim.Native.Nat.{_<_, _≤_};
-ghost use Rattle.octets.specs.Bytes.{same};
-ghost use Rattle.table.specs.Limits.{mostFirms};
-ghost use Rattle.table.specs.Header.{isOpenDay, isBlank, firmAt, meantFirm, isListed};
+ghost use lib.ListN.{length};
+ghost use Rattle.octets.specs.Bytes.{put, same};
+ghost use Rattle.table.specs.Limits.{headerSize, mostFirms};
+ghost use Rattle.table.specs.Runs.{moments, standing};
+ghost use Rattle.table.specs.Header.{headerOf, headerBytes, isOpenDay, isBlank, firmAt, meantFirm, isListed};
 use wire::shares::Total;
 
 pub struct Header {
@@ -20,6 +22,55 @@ pub struct Header {
     pub threshold: Total,
     // eight firms of four bytes each; the first is the default
     pub firms: [u8; 32],
+}
+
+pub fn header_of(s: &[u8]) -> Header
+    requires { ⌜ length (now s) ≡ headerSize ⌝ }
+    ensures { λ r. ⌜ r ≡ headerOf (now (s .entry)) ⌝ }
+{
+    let threshold = Total(octets::be32(s, 24));
+    let firms = octets::bytes32_at(s, 28);
+    Header {
+        day: octets::byte_at(s, 0),
+        count: octets::byte_at(s, 1),
+        used: octets::be32(s, 4),
+        last: octets::be64(s, 8),
+        reference: octets::be64(s, 16),
+        threshold,
+        firms,
+    }
+}
+
+// The bytes are written in two runs: what the steps of a day move, then what stands from the fresh call on but for the reference.
+fn put_moments(s: &mut [u8], h: Header)
+    requires { ⌜ length (now s) ≡ headerSize ⌝ }
+    ensures { λ _. ⌜ (now (s .exit) ≡ put (now (s .entry)) 0 (moments h)) × (length (moments h) ≡ 16) ⌝ }
+{
+    octets::put_byte(s, 0, h.day);
+    octets::put_byte(s, 1, h.count);
+    octets::put_number(s, 2, 2, 0);
+    octets::put_be32(s, 4, h.used);
+    octets::put_be64(s, 8, h.last);
+}
+
+fn put_standing(s: &mut [u8], h: Header)
+    requires { ⌜ length (now s) ≡ headerSize ⌝ }
+    ensures { λ _. ⌜ (now (s .exit) ≡ put (now (s .entry)) 16 (standing h)) × (length (standing h) ≡ 48) ⌝ }
+{
+    let firms = h.firms;
+    octets::put_be64(s, 16, h.reference);
+    octets::put_be32(s, 24, h.threshold.0);
+    octets::put_bytes32(s, 28, firms);
+    octets::put_be32(s, 60, 0);
+}
+
+// The header's 64 bytes, over what is there.
+pub fn put_header(s: &mut [u8], h: Header)
+    requires { ⌜ length (now s) ≡ headerSize ⌝ }
+    ensures { λ _. ⌜ (now (s .exit) ≡ headerBytes h) × (length (headerBytes h) ≡ headerSize) ⌝ }
+{
+    put_moments(s, h);
+    put_standing(s, h);
 }
 
 pub fn is_open_day(h: Header) -> bool

@@ -1,1 +1,3 @@
 pub mod Opened
+pub mod Lengths
+pub mod Judged

@@ -1,11 +1,14 @@
 -- The entries of a tape (Messages and entries): one byte of kind, then a body whose length the kind fixes.
-use Prim.Native.Nat.{ℕ, _+_}
+use Prim.Native.Nat.{ℕ, suc, _+_}
 use Prim.Native.Char.{code}
-use mathlib.Core.Bool.{Bool, false}
+use mathlib.Core.Bool.{Bool, false, not}
 use mathlib.Core.List.{List, [], _∷_, map}
 use mathlib.Core.Option.{Option, none, some}
 use lib.ListN.{length, getD, drop}
 use lib.Dec.{eqb}
+use Rattle.octets.specs.Choice.{pick, firstOf_, _⇒_⨾_}
+use Rattle.answers.specs.declared.Answer.{Answer}
+use Rattle.answers.specs.declared.Answer.the-variants.{Done, Malformed, BadField}
 use Rattle.wire.specs.Layout.{Layout, stampAt, tokenAt, numberAt, liquidityAt, bookReasonAt, systemEventAt, limitPriceAt, shifted, layoutFor, firstBadPlace, isNone, get, reading}
 use Rattle.wire.specs.Messages.{enterOrder, replaceOrder, cancelOrder, modifyOrder}
 use Rattle.wire.specs.Shares.{removed}
@@ -101,6 +104,24 @@ kinds =
     enterEntry ∷ replaceEntry ∷ cancelEntry ∷ modifyEntry ∷ executionEntry ∷ bookCancelEntry ∷ selfMatchEntry ∷ priorityEntry ∷ lateEntry
     ∷ crossDoneEntry ∷ systemEntry ∷ []
 
+-- ---- kinds and their lengths
+
+-- where the first layout with this code stands in a list of them; behind the last where there is none
+unfoldable pub placeIn : List Layout → ℕ → ℕ
+placeIn [] code = 0
+placeIn (l ∷ ls) code = pick (eqb (l .code) code) 0 (suc (placeIn ls code))
+
+abbrev pub kindPlace : ℕ → ℕ
+kindPlace kind = placeIn kinds kind
+
+-- the length that a kind fixes; 0 for a byte that is no kind
+abbrev pub sizeFor : Option Layout → ℕ
+sizeFor none = 0
+sizeFor (some l) = l .size
+
+abbrev pub entryLength : ℕ → ℕ
+entryLength kind = sizeFor (layoutFor kinds kind)
+
 -- ---- judging
 
 unfoldable pub kindOf : List ℕ → ℕ
@@ -128,6 +149,14 @@ badPlaceOf s = firstBadIn (layoutFor kinds (kindOf s)) s
 
 unfoldable pub allLegal : List ℕ → Bool
 allLegal s = isNone (badPlaceOf s)
+
+-- what judging an entry answers
+unfoldable pub entryAnswer : List ℕ → Answer
+entryAnswer s =
+    firstOf
+    not (wellFormed s) ⇒ Malformed
+    ⨾ not (allLegal s) ⇒ BadField
+    ⨾ Done
 
 -- ---- reading
 

@@ -1,0 +1,107 @@
+-- A day: a list of entries played with unlimited room, and the same list through an outbox, with offers, reads and releases in any order
+-- (demand 3).
+use Prim.Native.Nat.{ℕ, zero, suc}
+use mathlib.Core.Bool.{Bool, true, false}
+use mathlib.Core.List.{List, [], _∷_, _++_}
+use mathlib.Core.Option.{Option, none, some}
+use lib.ListN.{length, take, drop, getD}
+use lib.Dec.{eqb}
+use Rattle.octets.specs.Choice.{pick}
+use Rattle.octets.specs.Bytes.{joined}
+use Rattle.answers.specs.Answer.{answerNumber, isDone}
+use Rattle.wire.specs.Layout.{Layout, layoutFor}
+use Rattle.wire.specs.Messages.{outbound}
+use Rattle.outbox.specs.Outbox.{held, releaseAnswer, releaseMarks}
+use Rattle.rules.specs.Sent.{message}
+use Rattle.tape.specs.Entries.{stampOf}
+use Rattle.host.specs.Step.{World, Stepped, step, comesTo, tableAfter}
+use Rattle.host.specs.Types.{Answer, Blocked, Done, Decision, Marks}
+
+-- ---- unlimited room: what the rules alone make of a list of entries
+
+pub record Played : Type 0 where
+  pub answers : List Answer
+  pub table : List ℕ
+  pub messages : List (List ℕ)
+
+-- an entry that sends nothing adds no message
+abbrev pub telling : List ℕ → List (List ℕ) → List (List ℕ)
+telling [] ms = ms
+telling (b ∷ bs) ms = (b ∷ bs) ∷ ms
+
+-- one entry, and then the rest
+abbrev pub playOn : List ℕ → List ℕ → Decision → Bool → (List ℕ → Played) → Played
+playOn t s d true rest =
+    let r = rest (tableAfter t s (d .plan)) in
+    record { answers = d .answer ∷ r .answers; table = r .table; messages = telling (message (stampOf s) (d .plan)) (r .messages) }
+playOn t s d false rest =
+    let r = rest t in
+    record { answers = d .answer ∷ r .answers; table = r .table; messages = r .messages }
+
+unfoldable pub unlimited : List ℕ → List (List ℕ) → Played
+unlimited t [] = record { answers = []; table = t; messages = [] }
+unlimited t (s ∷ ss) = playOn t s (comesTo t s) (isDone (comesTo t s .answer)) (λ t′. unlimited t′ ss)
+
+-- ---- with an outbox between
+
+-- what the driver does next: it offers the next entry, looks at the run that is read, or releases k bytes; it may ask for more than is held
+pub data Action : Type 0 where
+  offerNext : Action
+  look : Action
+  release : ℕ → Action
+
+-- how far a schedule came: the entries that are left, the answers but for 'blocked', the bytes released, and the world
+pub record Ran : Type 0 where
+  pub left : List (List ℕ)
+  pub answers : List Answer
+  pub released : List ℕ
+  pub world : World
+
+unfoldable pub isBlocked : Answer → Bool
+isBlocked a = eqb (answerNumber a) (answerNumber Blocked)
+
+abbrev pub withMarks : World → Marks → World
+withMarks w m = record { table = w .table; ring = w .ring; marks = m }
+
+-- the bytes that a release of k gives up: none where it is refused
+unfoldable pub givenUp : World → ℕ → List ℕ
+givenUp w k = pick (isDone (releaseAnswer (length (w .ring)) (w .marks) k)) (take k (held (w .ring) (w .marks))) []
+
+-- a blocked entry stays the next one
+abbrev pub offered : List ℕ → List (List ℕ) → Stepped → Bool → (World → List (List ℕ) → Ran) → Ran
+offered s ss r true rest = rest (r .world) (s ∷ ss)
+offered s ss r false rest =
+    let x = rest (r .world) ss in
+    record { left = x .left; answers = r .answer ∷ x .answers; released = x .released; world = x .world }
+
+unfoldable pub run : World → List (List ℕ) → List Action → Ran
+run w ss [] = record { left = ss; answers = []; released = []; world = w }
+run w ss (look ∷ todo) = run w ss todo
+run w ss (release k ∷ todo) =
+    let x = run (withMarks w (releaseMarks (length (w .ring)) (w .marks) k)) ss todo in
+    record { left = x .left; answers = x .answers; released = givenUp w k ++ x .released; world = x .world }
+run w [] (offerNext ∷ todo) = run w [] todo
+run w (s ∷ ss) (offerNext ∷ todo) =
+    offered s ss (step w s) (isBlocked (step w s .answer)) (λ w′ ss′. run w′ ss′ todo)
+
+-- ---- a driver that empties the outbox whenever an entry is blocked
+
+unfoldable pub emptied : World → World
+emptied w = withMarks w (releaseMarks (length (w .ring)) (w .marks) (w .marks .held))
+
+unfoldable pub patient : World → List (List ℕ) → List Action
+patient w [] = []
+patient w (s ∷ ss) =
+    pick (isBlocked (step w s .answer))
+    (offerNext ∷ release (w .marks .held) ∷ offerNext ∷ patient (step (emptied w) s .world) ss)
+    (offerNext ∷ patient (step w s .world) ss)
+
+-- ---- the stream cut into messages, by the length that the first byte's type fixes
+
+abbrev pub sizeFor : Option Layout → ℕ
+sizeFor none = 0
+sizeFor (some l) = l .size
+
+unfoldable pub cutInto : ℕ → List ℕ → List (List ℕ)
+cutInto zero s = []
+cutInto (suc n) s = take (sizeFor (layoutFor outbound (getD s 0 0))) s ∷ cutInto n (drop (sizeFor (layoutFor outbound (getD s 0 0))) s)

@@ -1,0 +1,56 @@
+-- At each return the tests that led there are the guards of `putAnswer`. Assumes nothing.
+use mathlib.Core.Path.{_≡_, refl, sym, ap, _∙_}
+use mathlib.Core.Bool.{true}
+use native.Mathlib.Omega.{arith}
+use lib.ListN.{length}
+use denote.Ref.{now}
+use borrow.Author.Needs.{needs}
+use borrow.Author.Tests.{lt-ltb, le-ltb}
+use Rattle.answers.specs.Answer.{isDone, ifDone}
+use Rattle.answers.specs.declared.Answer.the-variants.{Done}
+use Rattle.outbox.specs.Outbox.{Marks, ringGood, freeBytes, putAnswer, putMarks, putRing}
+use Rattle.outbox.proofs.Right.{right}
+use Rattle.outbox.proofs.put.put.Statement.{statement}
+use Rattle.outbox.proofs.put.put.Tie as tie
+
+ring-good-requires : tie.Need-ring-good-requires
+ring-good-requires c κs = search needs
+
+good : (c : tie.Then1) → ringGood (length (now (c .before .before .before .before .args .ring))) (c .before .before .before .before .args .marks) ≡ true
+good c = sym (c .before .ring-good .ensures) ∙ c .if1 .taken
+
+sub-if2 : tie.Need-sub-if2
+sub-if2 c = omega (arith, right _ _ (good c))
+
+append-requires : tie.Need-append-requires
+unfolding freeBytes
+append-requires c κs = (good (c .before .before), omega arith)
+
+refused-requires : tie.Need-refused-requires
+refused-requires c κs = search needs
+
+refused-requires-2 : tie.Need-refused-requires-2
+refused-requires-2 c κs = search needs
+
+same-length : tie.Need-same-length
+same-length c = search needs
+
+returns : tie.Need-returns
+unfolding putAnswer putMarks putRing freeBytes ifDone isDone
+returns c =
+    let t = c .before .before .before .before in
+    let after = c .before .before .append .ensures in
+    simp (good (t .before), le-ltb _ _ (t .if2 .taken)) (ap (λ (m : Marks). record { answer = Done; marks = m }) (after .0), after .1)
+
+returns-2 : tie.Need-returns-2
+unfolding putAnswer putMarks putRing freeBytes ifDone isDone
+returns-2 c = simp (good (c .before .before), lt-ltb _ _ (c .before .if2 .left)) (c .refused .ensures, refl)
+
+returns-3 : tie.Need-returns-3
+unfolding putAnswer putMarks putRing freeBytes ifDone isDone
+returns-3 c = simp (sym (c .before .before .ring-good .ensures) ∙ c .before .if1 .left) (c .refused2 .ensures, refl)
+
+pub put-spec : {M : Type 1} → statement M
+put-spec =
+    tie.close
+    (tie.spec ring-good-requires sub-if2 append-requires refused-requires refused-requires-2 same-length returns returns-2 returns-3)

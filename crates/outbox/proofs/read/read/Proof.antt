@@ -1,0 +1,86 @@
+-- The part is cut where the held bytes end or where the ring ends, whichever comes first. Assumes nothing.
+use mathlib.Core.Path.{_≡_, refl, sym, ap, _∙_}
+use mathlib.Core.Bool.{true}
+use Prim.Native.Nat.{ℕ, _-_}
+use native.Mathlib.Nat.{add-sub-cancel-left, zero-add}
+use native.Mathlib.Omega.{arith}
+use lib.ListN.{length, take, drop, length-drop}
+use lib.Seq.{take-all}
+use denote.Ref.{now}
+use borrow.Author.Needs.{needs}
+use Rattle.outbox.specs.Outbox.{ringGood, readRun}
+use Rattle.outbox.specs.Place.{readPlace}
+use Rattle.outbox.proofs.Right.{right}
+use Rattle.outbox.proofs.read.read.Statement.{statement}
+use Rattle.outbox.proofs.read.read.Tie as tie
+
+ring-good-requires : tie.Need-ring-good-requires
+ring-good-requires c κs = search needs
+
+good : (c : tie.Then1) → ringGood (length (now (c .before .before .before .args .ring))) (c .before .before .before .args .marks) ≡ true
+good c = sym (c .before .ring-good .ensures) ∙ c .if1 .taken
+
+sub-if2 : tie.Need-sub-if2
+sub-if2 c = omega (arith, right _ _ (good c))
+
+add-end : tie.Need-add-end
+add-end c = search needs
+
+sub-result : tie.Need-sub-result
+sub-result c = search needs
+
+part-result-start : tie.Need-part-result-start
+part-result-start c = search needs
+
+part-result-end : tie.Need-part-result-end
+part-result-end c = omega (arith, right _ _ (good (c .before)))
+
+sub-result-2 : tie.Need-sub-result-2
+sub-result-2 c = omega (arith, right _ _ (good (c .before)))
+
+part-result-start-2 : tie.Need-part-result-start-2
+part-result-start-2 c = omega (arith, right _ _ (good (c .before)))
+
+part-result-end-2 : tie.Need-part-result-end-2
+part-result-end-2 c = search needs
+
+slice-aggregate-result : tie.Need-slice-aggregate-result
+slice-aggregate-result c = search needs
+
+returns : tie.Need-returns
+unfolding readRun readPlace
+returns c =
+    let s = c .before .before .before .before .before .args in
+    simp (good (c .before .before)) (ap (λ (k : ℕ). take k (drop (s .marks .at) (now (s .ring)))) (add-sub-cancel-left (s .marks .at) (s .marks .held)), refl)
+
+returns-2 : tie.Need-returns-2
+unfolding readRun readPlace
+returns-2 c =
+    let s = c .before .before .before .before .before .args in
+    let behind = drop (s .marks .at) (now (s .ring)) in
+    let e : length behind ≡ length (now (s .ring)) - s .marks .at = length-drop (s .marks .at) (now (s .ring)) in
+    simp (good (c .before .before)) (take-all (length (now (s .ring)) - s .marks .at) behind (omega arith) ∙ sym (take-all (s .marks .held) behind (omega arith)), refl)
+
+returns-3 : tie.Need-returns-3
+unfolding readRun readPlace
+returns-3 c =
+    let start = c .before .before .before .before .args .ring .ptr in
+    simp (sym (c .before .before .ring-good .ensures) ∙ c .before .if1 .left) (refl, ap (λ (o : ℕ). (start .0, o)) (sym (zero-add (start .1))))
+
+pub read-spec : {M : Type 1} → statement M
+read-spec =
+    tie.close
+    (tie.spec
+    ring-good-requires
+    sub-if2
+    add-end
+    sub-result
+    part-result-start
+    part-result-end
+    sub-result-2
+    part-result-start-2
+    part-result-end-2
+    slice-aggregate-result
+    returns
+    returns-2
+    returns-3)

@@ -1,0 +1,62 @@
+-- Each return is the guard of `cutAt` that its tests led to; the length is what the kind byte fixes. Assumes nothing.
+use Prim.Native.Nat.{ℕ, _-_, _<_}
+use mathlib.Core.Path.{_≡_, sym, ap, _∙_}
+use mathlib.Core.Bool.{true, false}
+use borrow.Author.Needs.{needs}
+use borrow.Author.Tests.{le-leb, lt-leb, lt-ltb, le-ltb, eq-eqb, ne-eqb}
+use lib.Dec.{eqb, ltb}
+use lib.ListN.{length, getD}
+use Rattle.tape.specs.Entries.{entryLength}
+use Rattle.tape.specs.Cutting.{cutAt}
+use Rattle.tape.proofs.cutting.cut_at.Statement.{statement}
+use Rattle.tape.proofs.cutting.cut_at.Tie as tie
+
+returns : tie.Need-returns
+unfolding cutAt
+returns c = simp (le-leb _ _ (c .if1 .taken))
+
+shared-slice-read-length-of : tie.Need-shared-slice-read-length-of
+shared-slice-read-length-of c = search needs
+
+length-of-requires : tie.Need-length-of-requires
+length-of-requires c κs = search needs
+
+returns-2 : tie.Need-returns-2
+unfolding cutAt
+returns-2 c =
+    let p = c .before .before .before in
+    simp (lt-leb _ _ (p .if1 .left), eq-eqb _ _ (sym (c .before .length-of .ensures) ∙ c .if2 .taken))
+
+sub-if3 : tie.Need-sub-if3
+sub-if3 c = search needs
+
+returns-3 : tie.Need-returns-3
+unfolding cutAt
+returns-3 c =
+    let e = c .before .before .length-of .ensures in
+    let p = c .before .before .before .before in
+    simp (
+      lt-leb _ _ (p .if1 .left),
+      ne-eqb _ _ (λ z. c .before .if2 .left (e ∙ z)),
+      lt-ltb _ _ (rw e at (c .if3 .taken)),
+    )
+
+add-t4 : tie.Need-add-t4
+add-t4 c = search needs
+
+returns-4 : tie.Need-returns-4
+unfolding cutAt
+returns-4 c =
+    let e = c .before .before .length-of .ensures in
+    let p = c .before .before .before .before in
+    simp (
+      e,
+      lt-leb _ _ (p .if1 .left),
+      ne-eqb _ _ (λ z. c .before .if2 .left (e ∙ z)),
+      le-ltb _ _ (rw e at (c .if3 .left)),
+    )
+
+pub cut-at-spec : {M : Type 1} → statement M
+cut-at-spec =
+    tie.close
+    (tie.spec returns shared-slice-read-length-of length-of-requires returns-2 sub-if3 returns-3 add-t4 returns-4)

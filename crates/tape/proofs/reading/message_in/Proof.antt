@@ -1,0 +1,27 @@
+-- All that is left behind the first eight bytes. Assumes nothing.
+use Prim.Native.Nat.{_-_}
+use native.Mathlib.Omega.{arith}
+use lib.ListN.{length, drop, length-take, length-drop}
+use lib.Seq.{take-all}
+use borrow.Author.Needs.{needs}
+use Rattle.tape.specs.Entries.{messageIn}
+use Rattle.tape.proofs.reading.message_in.Statement.{statement}
+use Rattle.tape.proofs.reading.message_in.Tie as tie
+
+sub-result : tie.Need-sub-result
+sub-result c = search needs
+
+part-result-start : tie.Need-part-result-start
+part-result-start c = search needs
+
+part-result-end : tie.Need-part-result-end
+part-result-end c = search needs
+
+returns : tie.Need-returns
+unfolding messageIn
+returns c =
+    let s = c .before .args .entry .now in
+    (take-all (length s - 8) (drop 8 s) (simp length-drop (omega arith)), simp (length-take, length-drop) (omega arith))
+
+pub message-in-spec : {M : Type 1} → statement M
+message-in-spec = tie.close (tie.spec sub-result part-result-start part-result-end returns)

@@ -1,0 +1,21 @@
+-- The client's message, parsed where it stands. Assumes nothing.
+use mathlib.Core.Path.{ap, _∙_}
+use native.Mathlib.Omega.{arith}
+use borrow.Author.Needs.{needs}
+use Rattle.inbound.specs.Inbound.{modifyOrderOf}
+use Rattle.tape.specs.Entries.{modifyOf}
+use Rattle.tape.proofs.reading.modify_of.Statement.{statement}
+use Rattle.tape.proofs.reading.modify_of.Tie as tie
+
+message-in-requires : tie.Need-message-in-requires
+message-in-requires c κs = search needs
+
+parse-modify-order-requires : tie.Need-parse-modify-order-requires
+parse-modify-order-requires c κs = omega (arith, c .message-in .ensures .1)
+
+returns : tie.Need-returns
+unfolding modifyOf
+returns c = c .parse-modify-order .ensures ∙ ap modifyOrderOf (c .before .message-in .ensures .0)
+
+pub modify-of-spec : {M : Type 1} → statement M
+modify-of-spec = tie.close (tie.spec message-in-requires parse-modify-order-requires returns)

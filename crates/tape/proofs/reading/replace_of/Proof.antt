@@ -1,0 +1,21 @@
+-- The client's message, parsed where it stands. Assumes nothing.
+use mathlib.Core.Path.{ap, _∙_}
+use native.Mathlib.Omega.{arith}
+use borrow.Author.Needs.{needs}
+use Rattle.inbound.specs.Inbound.{replaceOrderOf}
+use Rattle.tape.specs.Entries.{replaceOf}
+use Rattle.tape.proofs.reading.replace_of.Statement.{statement}
+use Rattle.tape.proofs.reading.replace_of.Tie as tie
+
+message-in-requires : tie.Need-message-in-requires
+message-in-requires c κs = search needs
+
+parse-replace-order-requires : tie.Need-parse-replace-order-requires
+parse-replace-order-requires c κs = omega (arith, c .message-in .ensures .1)
+
+returns : tie.Need-returns
+unfolding replaceOf
+returns c = c .parse-replace-order .ensures ∙ ap replaceOrderOf (c .before .message-in .ensures .0)
+
+pub replace-of-spec : {M : Type 1} → statement M
+replace-of-spec = tie.close (tie.spec message-in-requires parse-replace-order-requires returns)
