@@ -2,8 +2,8 @@
 
 use crate::answer::Answer;
 use crate::host::Host;
-use crate::outbox::{run, Marks, Outbox};
-use crate::table::{record_count, Header, Settings, HEADER_LEN};
+use crate::outbox::{Marks, Outbox, run};
+use crate::table::{HEADER_LEN, Header, Settings, record_count};
 
 /// Makes the table fresh: refuses a bad length with 10, then bad settings with 3.
 pub fn fresh(table: &mut [u8], threshold: u32, firms: &[[u8; 4]]) -> u8 {

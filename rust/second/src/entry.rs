@@ -2,7 +2,7 @@
 
 use crate::answer::Answer;
 use crate::field::{BookReason, Field, Flag, PriorityPrice, Stamp, SystemCode, Token};
-use crate::layout::{messages, Message};
+use crate::layout::{Message, messages};
 use crate::messages::{Cancel, Enter, Modify, Replace};
 use crate::shares::Removed;
 

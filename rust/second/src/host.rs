@@ -5,10 +5,10 @@ use std::collections::HashMap;
 use crate::answer::Answer;
 use crate::entry::Entry;
 use crate::field::{Field, Stamp, Token};
-use crate::order::{Order, Record, RECORD_LEN};
+use crate::order::{Order, RECORD_LEN, Record};
 use crate::outbox::Outbox;
-use crate::rules::{decide, Deed};
-use crate::table::{record_count, Day, Header, HEADER_LEN, LAST_REFERENCE};
+use crate::rules::{Deed, decide};
+use crate::table::{Day, HEADER_LEN, Header, LAST_REFERENCE, record_count};
 
 /// A sound table in the host's own structures.
 #[derive(Clone, Debug)]

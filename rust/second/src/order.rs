@@ -1,7 +1,7 @@
 //! A record of the table: an order, live or dead, or a token that a Rejected used up.
 
 use crate::field::{Field, Token};
-use crate::layout::{fields, Fields};
+use crate::layout::{Fields, fields};
 use crate::shares::{Open, Total};
 
 /// A record's bytes.

@@ -1,6 +1,6 @@
 //! Share numbers by kind, so that a total is never taken for an increment or for an exposure.
 
-use crate::field::{plain_field, Field};
+use crate::field::{Field, plain_field};
 
 /// Shares of a whole chain: liable, executed, self-matched, an intended size.
 #[derive(Clone, Copy, Debug, Default, PartialEq, Eq, PartialOrd, Ord)]

@@ -1,6 +1,6 @@
 //! The table's length and header: the day, the settings and the counters in 64 bytes.
 
-use crate::field::{capitals_then_spaces, Field, Stamp};
+use crate::field::{Field, Stamp, capitals_then_spaces};
 use crate::order::RECORD_LEN;
 
 /// The header's bytes.

@@ -1,14 +1,14 @@
 //! O: Enter Order is ignored, rejected with the first fault's letter, or accepted.
 
 use super::details::{
-    accepted_time_in_force, bad_display, bad_minimum, bad_price, bad_shares, NO_WEIGHT,
+    NO_WEIGHT, accepted_time_in_force, bad_display, bad_minimum, bad_price, bad_shares,
 };
 use super::{Deed, Sent};
 use crate::answer::Answer;
-use crate::field::{capitals_then_spaces, Stamp};
+use crate::field::{Stamp, capitals_then_spaces};
 use crate::host::Host;
 use crate::messages::{Accepted, Enter};
-use crate::order::{Flags, Order, Record, LIVE};
+use crate::order::{Flags, LIVE, Order, Record};
 use crate::shares::{Open, Total};
 use crate::table::Firm;
 

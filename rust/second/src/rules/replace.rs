@@ -1,14 +1,14 @@
 //! U: Replace Order is ignored, rejected, ends the order for bad details, or replaces it.
 
 use super::details::{
-    accepted_time_in_force, bad_display, bad_minimum, bad_price, bad_shares, NO_WEIGHT,
+    NO_WEIGHT, accepted_time_in_force, bad_display, bad_minimum, bad_price, bad_shares,
 };
 use super::{Deed, Sent, USER_REQUESTED};
 use crate::answer::Answer;
 use crate::field::Stamp;
 use crate::host::Host;
 use crate::messages::{Replace, Replaced};
-use crate::order::{Flags, Order, Record, LIVE};
+use crate::order::{Flags, LIVE, Order, Record};
 
 /// The market is closed.
 const CLOSED: u8 = b'C';

@@ -1,7 +1,7 @@
 //! Tables made by hand: sound, but in states that no tape would reach.
 
 use super::chance::Chance;
-use super::values::{new_token, STAMPS_END};
+use super::values::{STAMPS_END, new_token};
 
 /// 10^18, the highest next reference.
 const REFERENCES_END: u64 = 10_u64.pow(18);

@@ -2,7 +2,7 @@
 
 use super::chance::Chance;
 use super::damage;
-use super::values::{new_token, STAMPS_END};
+use super::values::{STAMPS_END, new_token};
 
 /// Inbound or not, the type, the whole length, and where tokens stand.
 const KINDS: [(bool, u8, usize, &[usize]); 16] = [

@@ -3,7 +3,7 @@
 use crate::field::{Side, Stamp, Token};
 use crate::messages::*;
 use crate::shares::{Removed, Total};
-use crate::{echo, Answer, Fields, Message};
+use crate::{Answer, Fields, Message, echo};
 
 /// Whether inbound, type, length, and the places of tokens, stamp and judged letters.
 struct Shape {

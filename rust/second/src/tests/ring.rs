@@ -1,7 +1,7 @@
 //! The ring: wrapping, reading and releasing.
 
 use super::kit::*;
-use crate::{read, release, Outbox};
+use crate::{Outbox, read, release};
 
 /// Canceled is 28 bytes; over 80 bytes it wraps at many places.
 #[test]

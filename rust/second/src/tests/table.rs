@@ -1,7 +1,7 @@
 //! The table: fresh ones, and both sides of every sentence about soundness.
 
 use super::kit::*;
-use crate::{fresh, Host};
+use crate::{Host, fresh};
 
 fn sound(table: &[u8]) -> bool {
     Host::load(table).is_some()

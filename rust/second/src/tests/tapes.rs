@@ -2,9 +2,9 @@
 
 use std::collections::BTreeSet;
 
-use super::kit::{cancel, number, system, Desk, O};
-use crate::tapes::{damage, message, settings, sound_table, worn_out, Chance, Tapes};
-use crate::{echo, fresh, listing, read, release, step, Host, Outbox};
+use super::kit::{Desk, O, cancel, number, system};
+use crate::tapes::{Chance, Tapes, damage, message, settings, sound_table, worn_out};
+use crate::{Host, Outbox, echo, fresh, listing, read, release, step};
 
 /// A table, a ring and marks, and what was seen of answers and messages.
 struct Run {
