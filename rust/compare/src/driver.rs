@@ -23,30 +23,32 @@ const HEADER_LEN: usize = 64;
 const RECORD_LEN: usize = 80;
 /// The most records of a table.
 const MOST_RECORDS: usize = 800;
-/// What the steps of a day may come to in bytes, since each shows the whole table and ring; a few
-/// days have more.
-const USUAL_DAY: usize = 60_000;
-const LONG_DAY: usize = 200_000;
+/// About what a step over a short table and ring shows.
+const SHORT_STEP: usize = 500;
 /// So many entries refused in a row end a day: the next one has more to show.
 const PATIENCE: u32 = 10;
 
-/// The longest tables and rings that a sink can take.
+/// How far a script goes: the longest tables and rings, and what the steps of a usual day may come
+/// to in bytes, since each shows the whole table and ring.
 #[derive(Clone, Copy, Debug)]
 pub struct Reach {
-    pub table: usize,
-    pub ring: usize,
+    table: usize,
+    ring: usize,
+    day: usize,
 }
 
 impl Reach {
-    /// What the mirror has room for.
+    /// What the mirror has room for, in days that keep its files small.
     pub const MIRROR: Reach = Reach {
         table: LONGEST_TABLE,
         ring: LONGEST_RING,
+        day: 60_000,
     };
-    /// Any length, so that lengths above the paper's are tried too.
+    /// Any length, so that lengths above the paper's are tried too, in longer days.
     pub const ANY: Reach = Reach {
         table: usize::MAX,
         ring: usize::MAX,
+        day: 600_000,
     };
 }
 
@@ -106,14 +108,12 @@ impl<S: Sink> Driver<S> {
         Ok(())
     }
 
-    /// How many entries a day has, so that long tables and rings don't swell the script.
+    /// How many entries a day has: few with a long table or ring, and now and then more.
     fn day_length(&mut self) -> usize {
-        let bytes = if self.chance.one_in(20) {
-            LONG_DAY
-        } else {
-            USUAL_DAY
-        };
-        (bytes / (self.desk.table.len() + self.desk.ring.len())).clamp(3, 120)
+        let day = self.reach.day;
+        let bytes = if self.chance.one_in(20) { 3 * day } else { day };
+        let shown = self.desk.table.len() + self.desk.ring.len();
+        (bytes / shown).clamp(3, day / SHORT_STEP)
     }
 
     /// What happens now and then between two entries.

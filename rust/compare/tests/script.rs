@@ -223,7 +223,7 @@ fn commands_are_read_as_they_are_written() {
 fn a_run_ends_where_the_protocol_says() {
     let ends: [&[u8]; 9] = [
         b"",
-        b"?",
+        b"?D",
         b"T\0\0\0\x02a",
         b"T\0\0\xfa\x41",
         b"R\0\x01\0\x01",
@@ -233,14 +233,10 @@ fn a_run_ends_where_the_protocol_says() {
         b"E\x01\0\0\x04\x01\0",
     ];
     for end in ends {
-        let script = [b"D".as_slice(), end, b"D"].concat();
-        // Only what stands before the end is obeyed, but for the cut ones nothing may follow.
-        let script = match end {
-            [b'?', ..] => script,
-            _ => [b"D".as_slice(), end].concat(),
-        };
+        let script = [b"D", end].concat();
         let mut wrote = Vec::new();
         mirror(&mut script.as_slice(), &mut wrote).unwrap();
+        // The length of an empty run, and nothing for the rest.
         assert_eq!(wrote, [0; 4], "{end:?}");
     }
 }

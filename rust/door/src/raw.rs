@@ -12,6 +12,7 @@ macro_rules! archive {
         }
         $(
             #[cfg(not(linked))]
+            #[allow(clippy::too_many_arguments, reason = "C lends each buffer as two arguments")]
             $(#[$doc])*
             pub unsafe fn $name($(_: $kind),*) -> $result {
                 panic!("{}", ABSENT.unwrap_or_default())
