@@ -18,25 +18,33 @@ pub enum Command {
     Table(Vec<u8>),
     /// Sets the ring and its marks.
     Ring { ring: Vec<u8>, marks: Marks },
-    /// Fresh over the present table. The count may be above the places, which is a bad setting.
-    Fresh {
-        threshold: u32,
-        count: u8,
-        firms: [[u8; 4]; FIRM_PLACES],
-    },
+    /// Fresh over the present table.
+    Fresh(Settings),
     /// Offers an entry.
     Step(Vec<u8>),
     /// Releases so many bytes.
     Release(u64),
     /// Reads the run.
     Read,
-    /// Reads a message and writes it into a buffer of so many bytes, all `fill`.
-    Echo {
-        inbound: bool,
-        message: Vec<u8>,
-        out_len: u16,
-        fill: u8,
-    },
+    /// Reads a message and writes it back.
+    Echo(Echo),
+}
+
+/// What a fresh call is given. The count may be above the places, which is a bad setting.
+#[derive(Clone, Copy, Debug, PartialEq, Eq)]
+pub struct Settings {
+    pub threshold: u32,
+    pub count: u8,
+    pub firms: [[u8; 4]; FIRM_PLACES],
+}
+
+/// A message, and a buffer of so many bytes, all `fill`.
+#[derive(Clone, Debug, PartialEq, Eq)]
+pub struct Echo {
+    pub inbound: bool,
+    pub message: Vec<u8>,
+    pub out_len: u16,
+    pub fill: u8,
 }
 
 impl Command {
@@ -45,11 +53,11 @@ impl Command {
         match self {
             Command::Table(_) => b'T',
             Command::Ring { .. } => b'R',
-            Command::Fresh { .. } => b'F',
+            Command::Fresh(_) => b'F',
             Command::Step(_) => b'S',
             Command::Release(_) => b'L',
             Command::Read => b'D',
-            Command::Echo { .. } => b'E',
+            Command::Echo(_) => b'E',
         }
     }
 
@@ -63,28 +71,19 @@ impl Command {
                 out.write_all(&(marks.at as u64).to_be_bytes())?;
                 out.write_all(&(marks.held as u64).to_be_bytes())
             }
-            Command::Fresh {
-                threshold,
-                count,
-                firms,
-            } => {
-                out.write_all(&threshold.to_be_bytes())?;
-                out.write_all(&[*count])?;
-                out.write_all(firms.as_flattened())
+            Command::Fresh(settings) => {
+                out.write_all(&settings.threshold.to_be_bytes())?;
+                out.write_all(&[settings.count])?;
+                out.write_all(settings.firms.as_flattened())
             }
             Command::Step(entry) => write_short(out, entry),
             Command::Release(k) => out.write_all(&k.to_be_bytes()),
             Command::Read => Ok(()),
-            Command::Echo {
-                inbound,
-                message,
-                out_len,
-                fill,
-            } => {
-                out.write_all(&[u8::from(*inbound)])?;
-                write_short(out, message)?;
-                out.write_all(&out_len.to_be_bytes())?;
-                out.write_all(&[*fill])
+            Command::Echo(echo) => {
+                out.write_all(&[u8::from(echo.inbound)])?;
+                write_short(out, &echo.message)?;
+                out.write_all(&echo.out_len.to_be_bytes())?;
+                out.write_all(&[echo.fill])
             }
         }
     }
@@ -102,18 +101,8 @@ impl Command {
         let [letter] = bytes(script)?;
         Ok(match letter {
             b'T' => read_long(script, LONGEST_TABLE)?.map(Command::Table),
-            b'R' => match read_long(script, LONGEST_RING)? {
-                Some(ring) => Some(Command::Ring {
-                    ring,
-                    marks: read_marks(script)?,
-                }),
-                None => None,
-            },
-            b'F' => Some(Command::Fresh {
-                threshold: u32::from_be_bytes(bytes(script)?),
-                count: u8::from_be_bytes(bytes(script)?),
-                firms: read_firms(script)?,
-            }),
+            b'R' => read_ring(script)?,
+            b'F' => Some(Command::Fresh(read_settings(script)?)),
             b'S' => read_short(script)?.map(Command::Step),
             b'L' => Some(Command::Release(u64::from_be_bytes(bytes(script)?))),
             b'D' => Some(Command::Read),
@@ -157,17 +146,27 @@ fn read_bytes(script: &mut impl Read, len: usize, longest: usize) -> io::Result<
     Ok(Some(long))
 }
 
-fn read_marks(script: &mut impl Read) -> io::Result<Marks> {
-    Ok(Marks {
+fn read_ring(script: &mut impl Read) -> io::Result<Option<Command>> {
+    let Some(ring) = read_long(script, LONGEST_RING)? else {
+        return Ok(None);
+    };
+    let marks = Marks {
         at: u64::from_be_bytes(bytes(script)?) as usize,
         held: u64::from_be_bytes(bytes(script)?) as usize,
-    })
+    };
+    Ok(Some(Command::Ring { ring, marks }))
 }
 
-fn read_firms(script: &mut impl Read) -> io::Result<[[u8; 4]; FIRM_PLACES]> {
+fn read_settings(script: &mut impl Read) -> io::Result<Settings> {
+    let threshold = u32::from_be_bytes(bytes(script)?);
+    let [count] = bytes(script)?;
     let mut firms = [[0; 4]; FIRM_PLACES];
     script.read_exact(firms.as_flattened_mut())?;
-    Ok(firms)
+    Ok(Settings {
+        threshold,
+        count,
+        firms,
+    })
 }
 
 fn read_echo(script: &mut impl Read) -> io::Result<Option<Command>> {
@@ -178,12 +177,12 @@ fn read_echo(script: &mut impl Read) -> io::Result<Option<Command>> {
     let out_len = u16::from_be_bytes(bytes(script)?);
     let [fill] = bytes(script)?;
     let fits = inbound <= 1 && usize::from(out_len) <= LONGEST_MESSAGE;
-    Ok(fits.then_some(Command::Echo {
+    Ok(fits.then_some(Command::Echo(Echo {
         inbound: inbound == 1,
         message,
         out_len,
         fill,
-    }))
+    })))
 }
 
 /// The next N bytes.

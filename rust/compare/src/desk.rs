@@ -2,7 +2,7 @@
 
 use pilaqsevi::Marks;
 
-use crate::command::Command;
+use crate::command::{Command, Settings};
 use crate::host::Host;
 
 /// The mirror's state; at the start there is nothing.
@@ -22,13 +22,9 @@ impl Desk {
                 self.ring.clone_from(ring);
                 self.marks = *marks;
             }
-            Command::Fresh {
-                threshold,
-                count,
-                firms,
-            } => {
-                let firms = listed(*count, firms);
-                wrote.push(host.fresh(&mut self.table, *threshold, &firms));
+            Command::Fresh(settings) => {
+                let firms = listed(settings);
+                wrote.push(host.fresh(&mut self.table, settings.threshold, &firms));
                 wrote.extend(&self.table);
             }
             Command::Step(entry) => {
@@ -47,14 +43,9 @@ impl Desk {
                 wrote.extend((run.len() as u32).to_be_bytes());
                 wrote.extend(run);
             }
-            Command::Echo {
-                inbound,
-                message,
-                out_len,
-                fill,
-            } => {
-                let mut out = vec![*fill; usize::from(*out_len)];
-                wrote.push(host.echo(*inbound, message, &mut out));
+            Command::Echo(echo) => {
+                let mut out = vec![echo.fill; usize::from(echo.out_len)];
+                wrote.push(host.echo(echo.inbound, &echo.message, &mut out));
                 wrote.extend(out);
             }
         }
@@ -68,7 +59,7 @@ impl Desk {
 
 /// The firms of a fresh command as a list. A count above the places gives a list that is too long,
 /// whatever stands in it; places past the count aren't looked at.
-fn listed(count: u8, firms: &[[u8; 4]]) -> Vec<[u8; 4]> {
-    let places = firms.iter().cycle().copied();
-    places.take(usize::from(count)).collect()
+fn listed(settings: &Settings) -> Vec<[u8; 4]> {
+    let places = settings.firms.iter().cycle().copied();
+    places.take(usize::from(settings.count)).collect()
 }

@@ -9,7 +9,7 @@ use std::io;
 use pilaqsevi::Marks;
 use second::tapes::{Chance, Tapes, damage, message, settings, sound_table, worn_out};
 
-use crate::command::{Command, LONGEST_MESSAGE, LONGEST_RING, LONGEST_TABLE};
+use crate::command::{Command, Echo, LONGEST_MESSAGE, LONGEST_RING, LONGEST_TABLE, Settings};
 use crate::desk::Desk;
 use crate::host::Second;
 use crate::sinks::Sink;
@@ -162,11 +162,11 @@ impl<S: Sink> Driver<S> {
         } else {
             listed.len() as u8
         };
-        self.give(&Command::Fresh {
+        self.give(&Command::Fresh(Settings {
             threshold,
             count,
             firms,
-        })
+        }))
     }
 
     /// A fresh call that the present table survives, since nothing refused changes anything.
@@ -330,12 +330,12 @@ impl<S: Sink> Driver<S> {
             _ => len + self.chance.place(24),
         };
         let fill = self.chance.pick(&[0, 0x55, b' ', 0xff]);
-        self.give(&Command::Echo {
+        self.give(&Command::Echo(Echo {
             inbound,
             message,
             out_len: out_len.min(LONGEST_MESSAGE) as u16,
             fill,
-        })?;
+        }))?;
         Ok(())
     }
 

@@ -14,7 +14,7 @@ mod host;
 mod sinks;
 mod tally;
 
-pub use command::{Command, LONGEST_MESSAGE, LONGEST_RING, LONGEST_TABLE};
+pub use command::{Command, Echo, LONGEST_MESSAGE, LONGEST_RING, LONGEST_TABLE, Settings};
 pub use desk::Desk;
 pub use difference::{Difference, explain};
 pub use driver::{Driver, Reach};

@@ -26,9 +26,9 @@ impl Tally {
         let answer = expected.first().copied().map_or(0, usize::from);
         match command {
             Command::Step(_) => self.steps[answer] += 1,
-            Command::Fresh { .. } => self.freshes[answer] += 1,
+            Command::Fresh(_) => self.freshes[answer] += 1,
             Command::Release(_) => self.releases[answer] += 1,
-            Command::Echo { .. } => self.echoes[answer] += 1,
+            Command::Echo(_) => self.echoes[answer] += 1,
             Command::Read => self.reads += 1,
             Command::Table(_) | Command::Ring { .. } => {}
         }

@@ -62,13 +62,12 @@ impl Sink for &mut Seen {
         let answer = expected.first().copied().unwrap_or(0);
         match command {
             Command::Step(entry) => self.note_step(entry, answer),
-            Command::Echo {
-                inbound, message, ..
-            } => {
-                let kind = char::from(message.first().copied().unwrap_or(b'?'));
+            Command::Echo(echo) => {
+                let kind = char::from(echo.message.first().copied().unwrap_or(b'?'));
+                let inbound = echo.inbound;
                 self.what.insert(format!("E {inbound} {kind} {answer}"));
             }
-            Command::Fresh { .. } | Command::Release(_) => {
+            Command::Fresh(_) | Command::Release(_) => {
                 self.what.insert(format!("{letter} {answer}"));
             }
             Command::Read | Command::Table(_) | Command::Ring { .. } => {}
@@ -99,7 +98,7 @@ impl Seen {
             _ => ' ',
         };
         if answer == 0 {
-            self.what.insert(format!("{kind} sends {letter}{reason}"));
+            self.what.insert(format!("{kind} {letter}{reason}"));
             let start = (at + held) % len;
             if start + sent.len() > len {
                 self.what.insert(format!("{letter} wraps"));
@@ -140,45 +139,36 @@ fn answers_by_kind() -> Vec<String> {
     wanted
 }
 
+/// Every message that an entry can send, by its reason where it has one.
+fn messages_by_kind() -> Vec<String> {
+    let sends = "O A /U JC/U JR/U CU/U U /X CU/X P /X I /M M /e E /q D /p T /l - /f - /f CU/s S ";
+    let rejects = "CLSRDXZN".chars().map(|reason| format!("O J{reason}"));
+    let cancels = "ITSDZE".chars().map(|reason| format!("c C{reason}"));
+    let sends = sends.split('/').map(String::from);
+    sends.chain(rejects).chain(cancels).collect()
+}
+
+/// Both directions of all messages, with each answer that an echo has.
+fn echoes() -> Vec<String> {
+    let inbound = "OUXM".chars().map(|kind| (true, kind));
+    let outbound = "SAUCDEBJPITM".chars().map(|kind| (false, kind));
+    let kinds = inbound.chain(outbound);
+    kinds
+        .flat_map(|(inbound, kind)| {
+            [0, 2, 3, 13].map(|answer| format!("E {inbound} {kind} {answer}"))
+        })
+        .collect()
+}
+
 #[test]
 fn a_script_reaches_every_answer_message_and_reason() {
     let seen = seen(1, 40_000);
-    let mut wanted = answers_by_kind();
-    wanted.extend(
-        "CLSRDXZN"
-            .chars()
-            .map(|reason| format!("O sends J{reason}")),
-    );
-    wanted.extend("ITSDZE".chars().map(|reason| format!("c sends C{reason}")));
-    let sends = [
-        "O sends A ",
-        "U sends JC",
-        "U sends JR",
-        "U sends CU",
-        "U sends U ",
-        "X sends CU",
-        "X sends P ",
-        "X sends I ",
-        "M sends M ",
-        "e sends E ",
-        "q sends D ",
-        "p sends T ",
-        "l sends - ",
-        "f sends - ",
-        "f sends CU",
-        "s sends S ",
-    ];
-    wanted.extend(sends.map(String::from));
+    let mut wanted = [answers_by_kind(), messages_by_kind(), echoes()].concat();
     wanted.extend("AUCDEJPITM".chars().map(|letter| format!("{letter} wraps")));
     wanted.extend((1..=8).map(|records| format!("records {records}")));
     wanted.extend(["records 800", "ring full"].map(String::from));
     wanted.extend([0, 3, 10].map(|answer| format!("F {answer}")));
     wanted.extend([0, 11, 12].map(|answer| format!("L {answer}")));
-    let inbound = "OUXM".chars().map(|kind| (true, kind));
-    let outbound = "SAUCDEBJPITM".chars().map(|kind| (false, kind));
-    for (inbound, kind) in inbound.chain(outbound) {
-        wanted.extend([0, 2, 3, 13].map(|answer| format!("E {inbound} {kind} {answer}")));
-    }
     wanted.retain(|what| !seen.contains(what));
     assert!(wanted.is_empty(), "never seen: {wanted:?}");
 }
