@@ -1,20 +1,18 @@
 -- What a reader and a writer answer, by what the code found on its way there. Assumes nothing.
 use mathlib.Core.Path.{_≡_, refl, sym, ap, _∙_}
-use mathlib.Core.Bool.{Bool, true, false, not}
+use mathlib.Core.Bool.{Bool, true, false}
 use mathlib.Core.List.{List, _++_}
 use mathlib.Core.Option.{Option, none, some}
 use Prim.Native.Nat.{ℕ, _≤_, _<_}
 use native.Mathlib.Omega.{arith}
-use lib.Dec.{eqb, ltb}
 use lib.ListN.{length, take, drop, getD}
 use lib.Seq.{length-take-le}
 use native.Mathlib.Nat.{zero-add}
 use Rattle.octets.specs.Bytes.{put}
 use borrow.Author.Tests.{eq-eqb, ne-eqb, lt-ltb, le-ltb}
 use Rattle.answers.specs.Answer.{isDone, ifDone}
-use Rattle.answers.specs.declared.Answer.{Answer}
 use Rattle.answers.specs.declared.Answer.the-variants.{Done, Malformed, BadField, NoRoom}
-use Rattle.wire.specs.Layout.{Layout, Field, Place, Nowhere, At, place, isNone, firstBadPlace, noBadPlace}
+use Rattle.wire.specs.Layout.{Layout, Field, Nowhere, At, place, isNone, firstBadPlace, noBadPlace}
 use Rattle.wire.specs.Messages.{readAnswer, writeAnswer, written}
 
 -- nothing is bad where there is no first bad place
