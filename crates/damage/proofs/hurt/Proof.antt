@@ -1,3 +1,4 @@
+-- A byte and at most 256 fit a machine word.
 use native.Mathlib.Omega.{arith}
 use borrow.Author.Needs.{needs}
 use Rattle.damage.proofs.hurt.Statement.{statement}

@@ -1,3 +1,4 @@
+-- The loop's invariant: no more sound lengths than lengths tried. The measure is what is left of the table.
 use mathlib.Core.Logic.{⊎-elim}
 use native.Mathlib.Omega.{arith}
 use Prim.Native.Nat.{_-_, _≤_}

@@ -1,3 +1,4 @@
+-- The loop's invariant: the table is as long as it was. The measure is what is left of the token.
 use mathlib.Core.Path.{_≡_}
 use Prim.Native.Nat.{_-_, _≤_}
 use lib.ListN.{length}

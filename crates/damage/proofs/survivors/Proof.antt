@@ -1,3 +1,4 @@
+-- The loop's invariant: as many turns as values tried, and the table is as long as it was. The measure is what is left of the values.
 use mathlib.Core.Path.{_≡_}
 use Prim.Native.Nat.{_-_, _≤_}
 use lib.ListN.{length}
