@@ -21,7 +21,7 @@ use Rattle.outbox.proofs.Right.{good-with}
 use Rattle.outbox.proofs.Held.{held-with, length-held}
 use Rattle.outbox.proofs.Board.{refused-release-changes-nothing, release-keeps-good, release-drops, read-is-prefix}
 use Rattle.host.specs.Types.{Answer, Blocked, Done, Decision, Plan, Marks}
-use Rattle.host.specs.Step.{World, Stepped, comesTo, noRoom, settle, offer, step, tableAfter, worldAfter, unchanged}
+use Rattle.host.specs.Step.{World, Outcome, comesTo, noRoom, settle, offer, step, tableAfter, worldAfter, unchanged}
 use Rattle.host.specs.Day.{Played, telling, playOn, unlimited, Action, offerNext, look, release, Ran, isBlocked, withMarks, givenUp, offered, run}
 
 -- ---- small things
@@ -90,7 +90,7 @@ module _
     (unblocked : (t s : List ℕ) → isBlocked (comesTo t s .answer) ≡ false)
   where
     -- a settled decision, by whether it is done and whether there is room
-    abbrev settled : World → List ℕ → Decision → Bool → Bool → Stepped
+    abbrev settled : World → List ℕ → Decision → Bool → Bool → Outcome
     settled w s d done full =
         not done ⇒ unchanged w (d .answer)
         ⨾ full ⇒ unchanged w Blocked

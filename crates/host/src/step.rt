@@ -1,0 +1,80 @@
+// One step: judge, read, decide, ask for room, write. Nothing is written before the last question is answered, so a refusal changes nothing.
+use answers::Answer;
+use answers::number;
+use crate::commit::commit;
+use crate::decide::decide;
+use crate::decide::within_limits;
+use outbox::marks::Marks;
+use outbox::marks::ring_good;
+use outbox::put::append;
+use rules::plan::Decision;
+use rules::sent::message;
+use table::find::find;
+use table::find::order_from;
+use table::header::Header;
+use table::places::header;
+use table::places::used;
+use table::sound::sound;
+use tape::judging::judge;
+use tape::kinds::kind_of;
+use tape::reading::stamp_of;
+use tape::reading::token_of;
+
+ghost use mathlib.Core.Path.{_≡_};
+ghost use mathlib.Core.Bool.{true};
+ghost use lib.ListN.{length};
+ghost use Rattle.answers.specs.declared.Answer.the-variants.{Done};
+ghost use Rattle.outbox.specs.Outbox.{ringGood};
+ghost use Rattle.table.specs.Table.{sound, header, placeOf};
+ghost use Rattle.tape.specs.Entries.{kindOf, tokenOf, entryAnswer, systemEntry};
+ghost use Rattle.host.specs.Step.{step, offer, settle, comesTo, world, Leaves};
+
+// What a step answers, with the marks after it.
+pub struct Stepped {
+    pub answer: Answer,
+    pub marks: Marks,
+}
+
+// The call that a driver makes for each entry. Table and ring are lent, and judged first: no caller has to check anything.
+pub fn step(table: &mut [u8], ring: &mut [u8], marks: Marks, entry: &[u8]) -> Stepped
+    ensures { λ r. ⌜ Leaves (step (world (now (table .entry)) (now (ring .entry)) marks) (now (entry .entry))) (r .answer) (r .marks) (now (table .exit)) (now (ring .exit)) ⌝ }
+{
+    if sound(table) {
+        if ring_good(ring.len(), marks) {
+            return offer(table, ring, marks, entry);
+        }
+        return Stepped {
+            answer: Answer::WrongRing,
+            marks,
+        };
+    }
+    Stepped {
+        answer: Answer::NotSound,
+        marks,
+    }
+}
+
+// What a step does once table and ring are judged. Whoever plays many entries in a row judges once and calls this.
+pub fn offer(table: &mut [u8], ring: &mut [u8], marks: Marks, entry: &[u8]) -> Stepped
+    requires { ⌜ (sound (now table) ≡ true) × (ringGood (length (now ring)) marks ≡ true) ⌝ }
+    ensures { λ r. ⌜ Leaves (offer (world (now (table .entry)) (now (ring .entry)) marks) (now (entry .entry))) (r .answer) (r .marks) (now (table .exit)) (now (ring .exit)) ⌝ }
+{
+    let fault = judge(entry);
+    if number(fault) != 0 {
+        return Stepped {
+            answer: fault,
+            marks,
+        };
+    }
+    let h = header(table);
+    if stamp_of(entry) < h.last {
+        return Stepped {
+            answer: Answer::TooEarly,
+            marks,
+        };
+    }
+    let place = place_named(table, entry);
+    let named = order_from(table, place);
+    let d = within_limits(table, h, decide(table, entry, h, named));
+    settle(table, ring, marks, entry, h, place, d)
+}
