@@ -1,14 +1,15 @@
 -- One step: from the table's, the ring's and the entry's bytes to the answer and what is there afterwards. The checks stand in the order of
 -- the answer numbers, and nothing is written before the last of them (Answer numbers, in order of checking).
-use Prim.Native.Nat.{ℕ, _+_}
-use mathlib.Core.Bool.{Bool, not, _&&_}
+use Prim.Native.Nat.{ℕ, _+_, _≤_}
+use mathlib.Core.Bool.{Bool, true, not, _&&_}
 use mathlib.Core.List.{List}
 use mathlib.Core.Path.{_≡_}
 use lib.ListN.{length}
 use lib.Dec.{leb, ltb, eqb}
 use Rattle.octets.specs.Choice.{pick, firstOf_, _⇒_⨾_}
-use Rattle.table.specs.Limits.{endOfReferences}
-use Rattle.table.specs.Table.{sound, header, recordsIn, placeOf, orderNamed, storeOrder, storeHeader}
+use Rattle.table.specs.Limits.{headerSize, mostRecords, endOfReferences}
+use Rattle.table.specs.Counts.{Within}
+use Rattle.table.specs.Table.{HasRecord, sound, header, recordsIn, placeOf, orderNamed, storeOrder, storeHeader}
 use Rattle.outbox.specs.Outbox.{ringGood, freeBytes, ringWith, marksWith}
 use Rattle.tape.specs.Entries.{kindOf, wellFormed, allLegal, _isAn_, enterEntry, replaceEntry, cancelEntry, modifyEntry, executionEntry, bookCancelEntry, selfMatchEntry, priorityEntry, lateEntry, crossDoneEntry, systemEntry, stampOf, tokenOf, enterOf, replaceOf, cancelOf, modifyOf, executionOf, bookCancelOf, selfMatchOf, priorityOf, systemOf}
 use Rattle.rules.specs.Plan.{refused}
@@ -156,6 +157,17 @@ step w s =
 
 abbrev pub world : List ℕ → List ℕ → Marks → World
 world t r m = record { table = t; ring = r; marks = m }
+
+-- what writing a plan down asks for: the records that it writes lie in the table, and the counts that its message tells are in order
+pub record Writable (t : List ℕ) (h : Header) (place : ℕ) (s : List ℕ) (p : Plan) : Type 0 where
+  pub head : h ≡ header t
+  pub long : headerSize ≤ length t
+  pub used : h .used ≤ mostRecords
+  pub reference : h .reference ≤ endOfReferences
+  pub named : isUsed (p .changed) ≡ true → place ≡ placeOf t (tokenOf s)
+  pub changed : isUsed (p .changed) ≡ true → HasRecord t place
+  pub added : isUsed (p .added) ≡ true → HasRecord t (h .used)
+  pub told : Within (p .changed .shares) × Within (p .added .shares)
 
 -- the order that an entry names is known to the rules that ask for it: every kind but the system's names one
 abbrev pub Names : List ℕ → Order → List ℕ → Type 0

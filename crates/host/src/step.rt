@@ -22,12 +22,14 @@ use tape::reading::token_of;
 
 ghost use mathlib.Core.Path.{_≡_};
 ghost use mathlib.Core.Bool.{true};
+ghost use Prim.Native.Nat.{_≤_};
 ghost use lib.ListN.{length};
+ghost use Rattle.answers.specs.Answer.{isDone};
 ghost use Rattle.answers.specs.declared.Answer.the-variants.{Done};
 ghost use Rattle.outbox.specs.Outbox.{ringGood};
-ghost use Rattle.table.specs.Table.{sound, header, placeOf};
+ghost use Rattle.table.specs.Table.{sound, placeOf};
 ghost use Rattle.tape.specs.Entries.{kindOf, tokenOf, entryAnswer, systemEntry};
-ghost use Rattle.host.specs.Step.{step, offer, settle, comesTo, world, Leaves};
+ghost use Rattle.host.specs.Step.{step, offer, settle, Writable, world, Leaves};
 
 // What a step answers, with the marks after it.
 pub struct Stepped {
@@ -77,4 +79,53 @@ pub fn offer(table: &mut [u8], ring: &mut [u8], marks: Marks, entry: &[u8]) -> S
     let named = order_from(table, place);
     let d = within_limits(table, h, decide(table, entry, h, named));
     settle(table, ring, marks, entry, h, place, d)
+}
+
+// Where the order that the entry names stands; behind the used records for the system's entries, which name none.
+fn place_named(table: &[u8], entry: &[u8]) -> usize
+    requires { ⌜ (sound (now table) ≡ true) × (entryAnswer (now entry) ≡ Done) ⌝ }
+    ensures { λ r. ⌜ ((kindOf (now (entry .entry)) ≡ systemEntry .code → ⊥) → r ≡ placeOf (now (table .entry)) (tokenOf (now (entry .entry)))) ⌝ }
+{
+    if kind_of(entry) == b's' {
+        return used(table);
+    }
+    find(table, token_of(entry))
+}
+
+// The one place where room is asked for. What follows the question is all writing.
+fn settle(
+    table: &mut [u8],
+    ring: &mut [u8],
+    marks: Marks,
+    entry: &[u8],
+    h: Header,
+    place: usize,
+    d: Decision,
+) -> Stepped
+    requires { ⌜ (ringGood (length (now ring)) marks ≡ true) × (9 ≤ length (now entry)) ⌝ }
+    requires { ⌜ (isDone (d .answer) ≡ true → Writable (now table) h place (now entry) (d .plan)) ⌝ }
+    ensures { λ r. ⌜ Leaves (settle (world (now (table .entry)) (now (ring .entry)) marks) (now (entry .entry)) d) (r .answer) (r .marks) (now (table .exit)) (now (ring .exit)) ⌝ }
+{
+    let answer = d.answer;
+    if number(answer) != 0 {
+        return Stepped { answer, marks };
+    }
+    let plan = d.plan;
+    let stamp = stamp_of(entry);
+    let sent = message(stamp, plan);
+    let bytes = sent.bytes;
+    let len = sent.len;
+    let held = marks.held;
+    if ring.len() - held < len {
+        return Stepped {
+            answer: Answer::Blocked,
+            marks,
+        };
+    }
+    commit(table, h, place, stamp, plan);
+    let after = append(ring, marks, &bytes[0..len]);
+    Stepped {
+        answer: Answer::Done,
+        marks: after,
+    }
 }
