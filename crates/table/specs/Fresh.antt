@@ -24,10 +24,13 @@ settingsGood s =
     ∷ firmsShaped (s .firms) (s .count)
     ∷ [])
 
+-- the firms up to the count, and zeros behind them
+unfoldable pub listedFirms : List ℕ → ℕ → List ℕ
+listedFirms codes n = take (firmSize * mostFirms) (take (firmSize * n) codes ++ zeros (firmSize * mostFirms))
+
 -- day 0, used 0, stamp 0, reference 1, these settings
 unfoldable pub freshHeader : Settings → Header
 freshHeader s =
-    let listed = take (firmSize * s .count) (s .firms) in
     record {
       day = dayBefore;
       count = s .count;
@@ -35,7 +38,7 @@ freshHeader s =
       last = 0;
       reference = firstReference;
       threshold = total (s .threshold);
-      firms = take (firmSize * mostFirms) (listed ++ zeros (firmSize * mostFirms));
+      firms = listedFirms (s .firms) (s .count);
     }
 
 -- ---- the fresh call: 10 for a bad length, then 3 for bad settings

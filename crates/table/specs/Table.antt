@@ -59,8 +59,12 @@ placeFrom t token (suc left) i =
 unfoldable pub placeOf : List ℕ → List ℕ → ℕ
 placeOf t token = placeFrom t token (header t .used) 0
 
+-- the order at a place so found
+unfoldable pub orderFrom : List ℕ → ℕ → Order
+orderFrom t i = pick (ltb i (header t .used)) (orderAt t i) noOrder
+
 unfoldable pub orderNamed : List ℕ → List ℕ → Order
-orderNamed t token = pick (ltb (placeOf t token) (header t .used)) (orderAt t (placeOf t token)) noOrder
+orderNamed t token = orderFrom t (placeOf t token)
 
 -- ---- storing
 

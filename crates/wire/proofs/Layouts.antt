@@ -103,7 +103,7 @@ pub sized-all : (fs : List Field) (v : Values fs) → Fits fs v → Sized fs v
 sized-all [] v h = tt
 sized-all (f ∷ fs) v h = (fits-sized (f .form) (f .width) (v .0) (h .0), sized-all fs (v .1) (h .1))
 
-length-fields : (fs : List Field) (v : Values fs) (at size : ℕ) → unbroken at size fs ≡ true → Sized fs v → at + length (spellFields fs v) ≡ size
+pub length-fields : (fs : List Field) (v : Values fs) (at size : ℕ) → unbroken at size fs ≡ true → Sized fs v → at + length (spellFields fs v) ≡ size
 unfolding unbroken
 length-fields [] v at size h s = omega (arith, eqb-true at size h)
 length-fields (f ∷ fs) v at size h s =
@@ -114,7 +114,7 @@ length-fields (f ∷ fs) v at size h s =
 part-there : (p b q : List ℕ) (at width : ℕ) → length p ≡ at → length b ≡ width → part (p ++ (b ++ q)) at width ≡ b
 part-there p b q at width ep eb = ap (take width) (drop-at p (b ++ q) at ep) ∙ take-at b q width eb
 
-fields-again : (fs : List Field) (v : Values fs) (at size : ℕ) (p : List ℕ) → unbroken at size fs ≡ true → Fits fs v → length p ≡ at
+pub fields-again : (fs : List Field) (v : Values fs) (at size : ℕ) (p : List ℕ) → unbroken at size fs ≡ true → Fits fs v → length p ≡ at
     → readFields fs (p ++ spellFields fs v) ≡ v
 fields-again [] v at size p h fits e = refl
 fields-again (f ∷ fs) v at size p h fits e =
@@ -126,7 +126,7 @@ fields-again (f ∷ fs) v at size p h fits e =
     (ap (readValue (f .form)) (part-there p b r (f .at) (f .width) (e ∙ sym (first-at f fs at size h)) eb) ∙ value-again (f .form) (f .width) (v .0) (fits .0))
     (ap (readFields fs) (sym (append-assoc p b r)) ∙ fields-again fs (v .1) (at + f .width) size (p ++ b) (rest-unbroken f fs at size h) (fits .1) n)
 
-spelled-again : (fs : List Field) (at size : ℕ) (s : List ℕ) → unbroken at size fs ≡ true → gapsAreZero fs ≡ true → firstBadPlace fs s ≡ none
+pub spelled-again : (fs : List Field) (at size : ℕ) (s : List ℕ) → unbroken at size fs ≡ true → gapsAreZero fs ≡ true → firstBadPlace fs s ≡ none
     → length s ≡ size → Bytes s → spellFields fs (readFields fs s) ≡ drop at s
 unfolding unbroken gapsAreZero firstBadPlace
 spelled-again [] at size s h g legal e b = sym (drop-of-length-le s {i = at} (omega (arith, eqb-true at size h)))

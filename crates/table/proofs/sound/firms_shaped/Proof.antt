@@ -1,0 +1,73 @@
+-- The loop's invariant: each firm before place k is shaped. The measure is what is left of the count.
+use mathlib.Core.Path.{_≡_, refl, sym, ap, _∙_}
+use mathlib.Core.Bool.{true}
+use Prim.Native.Nat.{_-_, _≤_}
+use native.Mathlib.Omega.{arith}
+use Rattle.octets.specs.Choice.{allBelow}
+use Rattle.octets.proofs.Below.{all-true, all-false}
+use Rattle.wire.specs.Text.{shaped}
+use Rattle.table.specs.Header.{firmAt, firmsShaped}
+use borrow.Author.Needs.{needs}
+use Rattle.table.proofs.sound.firms_shaped.Statement.{statement}
+use Rattle.table.proofs.sound.firms_shaped.Tie as tie
+
+abbrev Inv-loop : tie.InvT-loop
+Inv-loop firms count k₀ k = (k ≤ count) × (allBelow k (λ j. shaped (firmAt firms j)) ≡ true)
+
+abbrev μ-loop : tie.MeasureT-loop
+μ-loop firms count k₀ k = count - k
+
+loop-holds : tie.Need-loop-holds Inv-loop μ-loop
+unfolding allBelow
+loop-holds c = (omega arith, refl)
+
+firm-at-requires : tie.Need-firm-at-requires Inv-loop μ-loop
+firm-at-requires c κs = search needs
+
+slice-aggregate-is-shaped : tie.Need-slice-aggregate-is-shaped Inv-loop μ-loop
+slice-aggregate-is-shaped c = search needs
+
+is-shaped-requires : tie.Need-is-shaped-requires Inv-loop μ-loop
+is-shaped-requires c κs = search needs
+
+add-k : tie.Need-add-k Inv-loop μ-loop
+add-k c = search needs
+
+loop-less : tie.Need-loop-less Inv-loop μ-loop
+loop-less c = search needs
+
+loop-again : tie.Need-loop-again Inv-loop μ-loop
+loop-again c =
+    let l = c .before .before .before .before .before .loop in
+    let e = sym (ap shaped (c .before .before .before .firm-at .ensures)) ∙ sym (c .before .is-shaped .ensures) ∙ c .if1 .taken in
+    (omega arith, all-true (λ j. shaped (firmAt (c .before .before .before .before .before .before .args .firms) j)) (l .k) (l .inv .1) e)
+
+returns : tie.Need-returns Inv-loop μ-loop
+unfolding firmsShaped
+returns c =
+    let l = c .before .before .before .before .before .loop in
+    let e = sym (ap shaped (c .before .before .before .firm-at .ensures)) ∙ sym (c .before .is-shaped .ensures) ∙ c .if1 .left in
+    sym (all-false (λ j. shaped (firmAt (c .before .before .before .before .before .before .args .firms) j)) (c .before .before .before .before .before .before .args .count) (l .k) (omega arith) e)
+
+returns-2 : tie.Need-returns-2 Inv-loop μ-loop
+unfolding firmsShaped
+returns-2 c =
+    let l = c .before .loop in
+    let e : l .k ≡ c .before .before .args .count = omega arith in
+    sym (rw (← e) (l .inv .1))
+
+pub firms-shaped-spec : {M : Type 1} → statement M
+firms-shaped-spec =
+    tie.close
+    (tie.spec
+    Inv-loop
+    μ-loop
+    loop-holds
+    firm-at-requires
+    slice-aggregate-is-shaped
+    is-shaped-requires
+    add-k
+    loop-less
+    loop-again
+    returns
+    returns-2)

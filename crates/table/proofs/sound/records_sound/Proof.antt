@@ -1,0 +1,65 @@
+-- The loop's invariant: each record before i is sound. The measure is what is left of n.
+use mathlib.Core.Path.{_≡_, refl, sym, ap, _∙_}
+use mathlib.Core.Bool.{true}
+use Prim.Native.Nat.{_-_, _≤_}
+use native.Mathlib.Omega.{arith}
+use Rattle.octets.specs.Choice.{allBelow}
+use Rattle.octets.proofs.Below.{all-true, all-false}
+use Rattle.table.specs.Order.{recordSound}
+use Rattle.table.specs.Table.{recordBytes}
+use borrow.Author.Needs.{needs}
+use Rattle.table.proofs.sound.records_sound.Statement.{statement}
+use Rattle.table.proofs.sound.records_sound.Tie as tie
+
+abbrev Inv-loop : tie.InvT-loop
+Inv-loop table n i₀ i = (i ≤ n) × (allBelow i (λ j. recordSound (recordBytes table j)) ≡ true)
+
+abbrev μ-loop : tie.MeasureT-loop
+μ-loop table n i₀ i = n - i
+
+loop-holds : tie.Need-loop-holds Inv-loop μ-loop
+unfolding allBelow
+loop-holds c = (omega arith, refl)
+
+record-bytes-requires : tie.Need-record-bytes-requires Inv-loop μ-loop
+record-bytes-requires c κs = search needs
+
+record-sound-requires : tie.Need-record-sound-requires Inv-loop μ-loop
+record-sound-requires c κs = search needs
+
+add-i : tie.Need-add-i Inv-loop μ-loop
+add-i c = search needs
+
+loop-less : tie.Need-loop-less Inv-loop μ-loop
+loop-less c = search needs
+
+loop-again : tie.Need-loop-again Inv-loop μ-loop
+loop-again c =
+    let l = c .before .before .before .before .loop in
+    (omega arith, all-true (λ j. recordSound (recordBytes (c .before .before .before .before .before .before .args .table .now) j)) (l .i) (l .inv .1) (sym (ap recordSound (c .before .before .record-bytes .ensures .0)) ∙ sym (c .before .record-sound .ensures) ∙ c .if1 .taken))
+
+returns : tie.Need-returns Inv-loop μ-loop
+returns c =
+    let l = c .before .before .before .before .loop in
+    sym (all-false (λ j. recordSound (recordBytes (c .before .before .before .before .before .before .args .table .now) j)) (c .before .before .before .before .before .before .args .n) (l .i) (omega arith) (sym (ap recordSound (c .before .before .record-bytes .ensures .0)) ∙ sym (c .before .record-sound .ensures) ∙ c .if1 .left))
+
+returns-2 : tie.Need-returns-2 Inv-loop μ-loop
+returns-2 c =
+    let l = c .before .loop in
+    let e : l .i ≡ c .before .before .before .args .n = omega arith in
+    sym (rw (← e) (l .inv .1))
+
+pub records-sound-spec : {M : Type 1} → statement M
+records-sound-spec =
+    tie.close
+    (tie.spec
+    Inv-loop
+    μ-loop
+    loop-holds
+    record-bytes-requires
+    record-sound-requires
+    add-i
+    loop-less
+    loop-again
+    returns
+    returns-2)

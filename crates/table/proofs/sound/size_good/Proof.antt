@@ -1,0 +1,28 @@
+use mathlib.Core.Path.{_≡_, refl, sym}
+use Prim.Native.Nat.{_-_}
+use native.Mathlib.Omega.{arith}
+use lib.ListN.{length}
+use Rattle.table.specs.Limits.{headerSize}
+use Rattle.table.specs.Table.{recordsIn, sizeGood}
+use borrow.Author.Needs.{needs}
+use Rattle.table.proofs.sound.size_good.Statement.{statement}
+use Rattle.table.proofs.sound.size_good.Tie as tie
+
+returns : tie.Need-returns
+unfolding sizeGood recordsIn
+returns c =
+    let e : length (c .before .args .table .now) - headerSize ≡ 0 = omega arith in
+    sym (rw e)
+
+mul-result : tie.Need-mul-result
+mul-result c = search needs
+
+add-result : tie.Need-add-result
+add-result c = search needs
+
+returns-2 : tie.Need-returns-2
+unfolding sizeGood recordsIn
+returns-2 c = refl
+
+pub size-good-spec : {M : Type 1} → statement M
+size-good-spec = tie.close (tie.spec returns mul-result add-result returns-2)

@@ -1,0 +1,58 @@
+-- The loop's invariant: `ok` says that the k bytes passed are zero. The measure is what is left of n.
+use mathlib.Core.Path.{_≡_, refl, ap, _∙_}
+use Prim.Native.Nat.{ℕ, _+_, _-_, _≤_}
+use native.Mathlib.Omega.{arith}
+use lib.ListN.{getD}
+use lib.Dec.{eqb}
+use Rattle.octets.specs.Choice.{allBelow}
+use Rattle.octets.proofs.Below.{all-next, part-are}
+use borrow.Author.Needs.{needs}
+use Rattle.table.proofs.sound.zeros.Statement.{statement}
+use Rattle.table.proofs.sound.zeros.Tie as tie
+
+abbrev Inv-loop : tie.InvT-loop
+Inv-loop s at n ok₀ k₀ ok k = (k ≤ n) × (ok ≡ allBelow k (λ j. eqb (getD s (at + j) 0) 0))
+
+abbrev μ-loop : tie.MeasureT-loop
+μ-loop s at n ok₀ k₀ ok k = n - k
+
+loop-holds : tie.Need-loop-holds Inv-loop μ-loop
+unfolding allBelow
+loop-holds c = (omega arith, refl)
+
+add-ok : tie.Need-add-ok Inv-loop μ-loop
+add-ok c = search needs
+
+shared-slice-read-ok : tie.Need-shared-slice-read-ok Inv-loop μ-loop
+shared-slice-read-ok c = search needs
+
+add-k : tie.Need-add-k Inv-loop μ-loop
+add-k c = search needs
+
+loop-less : tie.Need-loop-less Inv-loop μ-loop
+loop-less c = search needs
+
+loop-again : tie.Need-loop-again Inv-loop μ-loop
+loop-again c =
+    let a = c .before .before .before .args in
+    (omega arith, all-next (λ j. eqb (getD (a .s .now) (a .at + j) 0) 0) _ (c .before .before .loop .inv .1) refl)
+
+returns : tie.Need-returns Inv-loop μ-loop
+returns c =
+    let a = c .before .before .args in
+    let e : c .before .loop .k ≡ a .n = omega arith in
+    c .before .loop .inv .1 ∙ ap (λ (m : ℕ). allBelow m (λ j. eqb (getD (a .s .now) (a .at + j) 0) 0)) e ∙ part-are 0 (a .s .now) (a .at) (a .n) (c .before .before .pre)
+
+pub zeros-spec : {M : Type 1} → statement M
+zeros-spec =
+    tie.close
+    (tie.spec
+    Inv-loop
+    μ-loop
+    loop-holds
+    add-ok
+    shared-slice-read-ok
+    add-k
+    loop-less
+    loop-again
+    returns)
