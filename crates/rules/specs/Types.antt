@@ -24,3 +24,4 @@ pub use Rattle.rules.specs.declared.plan.Decision.{Decision}
 pub use Rattle.rules.specs.declared.plan.Notice.{Notice}
 pub use Rattle.rules.specs.declared.plan.Notice.the-variants.{Accepted, AiqCancelled, CancelPending, CancelReject, Canceled, Executed, Modified, PriorityUpdate, Rejected, Replaced, Silent, SystemEvent}
 pub use Rattle.rules.specs.declared.plan.Plan.{Plan}
+pub use Rattle.rules.specs.declared.sent.Sent.{Sent}

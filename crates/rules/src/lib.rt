@@ -5,3 +5,4 @@ pub mod market;
 pub mod modify;
 pub mod plan;
 pub mod replace;
+pub mod sent;
