@@ -2,3 +2,5 @@ pub mod Opened
 pub mod Standing
 pub mod Moments
 pub mod Keeps
+pub mod Spelled
+pub mod Told
