@@ -20,7 +20,10 @@ use Rattle.rules.specs.Enter.{enterRule}
 use Rattle.rules.specs.Replace.{replaceRule}
 use Rattle.rules.specs.Cancel.{cancelRule}
 use Rattle.rules.specs.Modify.{modifyRule}
-use Rattle.rules.specs.Market.{executionRule, bookCancelRule, selfMatchRule, priorityRule, lateRule, crossDoneRule, systemRule}
+use Rattle.market.specs.Taken.{executionRule, bookCancelRule, selfMatchRule}
+use Rattle.market.specs.Priority.{priorityRule}
+use Rattle.market.specs.Cross.{lateRule, crossDoneRule}
+use Rattle.market.specs.Day.{systemRule}
 use Rattle.host.specs.Types.{Plan, Decision, Order, Header, Marks, Answer, Done, Malformed, BadField, TooEarly, Full, Blocked, NotSound, WrongRing}
 
 pub record World : Type 0 where

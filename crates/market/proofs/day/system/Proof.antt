@@ -1,8 +1,8 @@
 -- Each return is the guard that its tests led to. Assumes nothing.
-use Rattle.rules.specs.Market.{systemRule}
+use Rattle.market.specs.Day.{systemRule}
 use borrow.Author.Needs.{needs}
-use Rattle.rules.proofs.market.system.Statement.{statement}
-use Rattle.rules.proofs.market.system.Tie as tie
+use Rattle.market.proofs.day.system.Statement.{statement}
+use Rattle.market.proofs.day.system.Tie as tie
 
 beginning-requires : tie.Need-beginning-requires
 beginning-requires c κs = search needs

@@ -2,12 +2,12 @@
 use native.Mathlib.Omega.{arith}
 use borrow.Author.Tests.{not-false}
 use Rattle.octets.proofs.Guards.{answered, denied}
-use Rattle.table.specs.Counts.{selfMatching}
-use Rattle.rules.specs.Market.{selfMatchRule}
-use Rattle.rules.proofs.Moments.{no-more-than-open}
+use Rattle.table.specs.Counts.{executing}
+use Rattle.market.specs.Taken.{executionRule}
+use Rattle.market.proofs.Room.{no-more-than-open}
 use borrow.Author.Needs.{needs}
-use Rattle.rules.proofs.market.self_match.Statement.{statement}
-use Rattle.rules.proofs.market.self_match.Tie as tie
+use Rattle.market.proofs.taken.execution.Statement.{statement}
+use Rattle.market.proofs.taken.execution.Tie as tie
 
 is-live-requires : tie.Need-is-live-requires
 is-live-requires c κs = search needs
@@ -16,7 +16,7 @@ refused-requires : tie.Need-refused-requires
 refused-requires c κs = search needs
 
 returns : tie.Need-returns
-unfolding selfMatchRule
+unfolding executionRule
 returns c = simp (c .refused .ensures, denied (c .before .before .is-live .ensures) (c .before .if1 .taken))
 
 is-open-day-requires : tie.Need-is-open-day-requires
@@ -26,7 +26,7 @@ refused-requires-2 : tie.Need-refused-requires-2
 refused-requires-2 c κs = search needs
 
 returns-2 : tie.Need-returns-2
-unfolding selfMatchRule
+unfolding executionRule
 returns-2 c = simp (c .refused2 .ensures, denied (c .before .before .before .before .is-live .ensures) (c .before .before .before .if1 .left), denied (c .before .before .is-open-day .ensures) (c .before .if2 .taken))
 
 shares-wrong-requires : tie.Need-shares-wrong-requires
@@ -36,31 +36,31 @@ refused-requires-3 : tie.Need-refused-requires-3
 refused-requires-3 c κs = search needs
 
 returns-3 : tie.Need-returns-3
-unfolding selfMatchRule
+unfolding executionRule
 returns-3 c = simp (c .refused3 .ensures, denied (c .before .before .before .before .before .before .is-live .ensures) (c .before .before .before .before .before .if1 .left), denied (c .before .before .before .before .is-open-day .ensures) (c .before .before .before .if2 .left), answered (c .before .before .shares-wrong .ensures) (c .before .if3 .taken))
 
-self-matching-requires : tie.Need-self-matching-requires
-self-matching-requires c κs =
+executing-requires : tie.Need-executing-requires
+executing-requires c κs =
     let room = no-more-than-open _ _ (c .before .before .before .before .before .before .pre (not-false _ (denied (c .before .before .before .before .before .is-live .ensures) (c .before .before .before .before .if1 .left)))) (answered (c .before .shares-wrong .ensures) (c .if3 .left)) in
     omega arith
 
 with-counts-requires : tie.Need-with-counts-requires
-unfolding selfMatching
+unfolding executing
 with-counts-requires c κs =
     let room = no-more-than-open _ _ (c .before .before .before .before .before .before .before .pre (not-false _ (denied (c .before .before .before .before .before .before .is-live .ensures) (c .before .before .before .before .before .if1 .left)))) (answered (c .before .before .shares-wrong .ensures) (c .before .if3 .left)) in
-    rw (c .self-matching .ensures) (omega arith)
+    rw (c .executing .ensures) (omega arith)
 
 changing-requires : tie.Need-changing-requires
 changing-requires c κs = search needs
 
 returns-4 : tie.Need-returns-4
-unfolding selfMatchRule
+unfolding executionRule
 returns-4 c =
     simp
-    (c .changing .ensures, c .before .with-counts .ensures, c .before .before .self-matching .ensures, denied (c .before .before .before .before .before .before .before .before .is-live .ensures) (c .before .before .before .before .before .before .before .if1 .left), denied (c .before .before .before .before .before .before .is-open-day .ensures) (c .before .before .before .before .before .if2 .left), answered (c .before .before .before .before .shares-wrong .ensures) (c .before .before .before .if3 .left))
+    (c .changing .ensures, c .before .with-counts .ensures, c .before .before .executing .ensures, denied (c .before .before .before .before .before .before .before .before .is-live .ensures) (c .before .before .before .before .before .before .before .if1 .left), denied (c .before .before .before .before .before .before .is-open-day .ensures) (c .before .before .before .before .before .if2 .left), answered (c .before .before .before .before .shares-wrong .ensures) (c .before .before .before .if3 .left))
 
-pub self-match-spec : {M : Type 1} → statement M
-self-match-spec =
+pub execution-spec : {M : Type 1} → statement M
+execution-spec =
     tie.close
     (tie.spec
     is-live-requires
@@ -72,7 +72,7 @@ self-match-spec =
     shares-wrong-requires
     refused-requires-3
     returns-3
-    self-matching-requires
+    executing-requires
     with-counts-requires
     changing-requires
     returns-4)

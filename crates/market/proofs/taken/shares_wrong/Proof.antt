@@ -1,9 +1,9 @@
 -- The gathered tests are the definition's. Assumes nothing.
 use native.Mathlib.Omega.{arith}
-use Rattle.rules.specs.Market.{sharesWrong}
+use Rattle.market.specs.Taken.{sharesWrong}
 use borrow.Author.Needs.{needs}
-use Rattle.rules.proofs.market.shares_wrong.Statement.{statement}
-use Rattle.rules.proofs.market.shares_wrong.Tie as tie
+use Rattle.market.proofs.taken.shares_wrong.Statement.{statement}
+use Rattle.market.proofs.taken.shares_wrong.Tie as tie
 
 open-shares-requires : tie.Need-open-shares-requires
 open-shares-requires c κs = search needs

@@ -1,9 +1,9 @@
 -- Each return is the guard that its tests led to. Assumes nothing.
 use Rattle.octets.proofs.Guards.{denied}
-use Rattle.rules.specs.Market.{priorityRule}
+use Rattle.market.specs.Priority.{priorityRule}
 use borrow.Author.Needs.{needs}
-use Rattle.rules.proofs.market.priority.Statement.{statement}
-use Rattle.rules.proofs.market.priority.Tie as tie
+use Rattle.market.proofs.priority.priority.Statement.{statement}
+use Rattle.market.proofs.priority.priority.Tie as tie
 
 is-live-requires : tie.Need-is-live-requires
 is-live-requires c κs = search needs

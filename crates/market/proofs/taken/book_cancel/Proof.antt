@@ -3,11 +3,11 @@ use native.Mathlib.Omega.{arith}
 use borrow.Author.Tests.{not-false}
 use Rattle.octets.proofs.Guards.{answered, denied}
 use Rattle.table.specs.Counts.{cut, withLiable}
-use Rattle.rules.specs.Market.{bookCancelRule}
-use Rattle.rules.proofs.Moments.{no-more-than-open}
+use Rattle.market.specs.Taken.{bookCancelRule}
+use Rattle.market.proofs.Room.{no-more-than-open}
 use borrow.Author.Needs.{needs}
-use Rattle.rules.proofs.market.book_cancel.Statement.{statement}
-use Rattle.rules.proofs.market.book_cancel.Tie as tie
+use Rattle.market.proofs.taken.book_cancel.Statement.{statement}
+use Rattle.market.proofs.taken.book_cancel.Tie as tie
 
 is-live-requires : tie.Need-is-live-requires
 is-live-requires c κs = search needs

@@ -3,10 +3,10 @@ use native.Mathlib.Omega.{arith}
 use borrow.Author.Tests.{not-false}
 use Rattle.octets.proofs.Guards.{answered, denied}
 use Rattle.table.specs.Order.{withFlags, clearedLate, clearedPending}
-use Rattle.rules.specs.Market.{crossDoneRule}
+use Rattle.market.specs.Cross.{crossDoneRule}
 use borrow.Author.Needs.{needs}
-use Rattle.rules.proofs.market.cross_done.Statement.{statement}
-use Rattle.rules.proofs.market.cross_done.Tie as tie
+use Rattle.market.proofs.cross.cross_done.Statement.{statement}
+use Rattle.market.proofs.cross.cross_done.Tie as tie
 
 is-live-requires : tie.Need-is-live-requires
 is-live-requires c κs = search needs

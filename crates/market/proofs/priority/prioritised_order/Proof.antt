@@ -1,8 +1,8 @@
 -- The details are field by field the definition's. Assumes nothing.
-use Rattle.rules.specs.Market.{prioritisedOrder}
+use Rattle.market.specs.Priority.{prioritisedOrder}
 use borrow.Author.Needs.{needs}
-use Rattle.rules.proofs.market.prioritised_order.Statement.{statement}
-use Rattle.rules.proofs.market.prioritised_order.Tie as tie
+use Rattle.market.proofs.priority.prioritised_order.Statement.{statement}
+use Rattle.market.proofs.priority.prioritised_order.Tie as tie
 
 with-details-requires : tie.Need-with-details-requires
 with-details-requires c κs = search needs

@@ -1,9 +1,9 @@
 -- Each return is the guard that its tests led to. Assumes nothing.
 use Rattle.octets.proofs.Guards.{denied}
-use Rattle.rules.specs.Market.{lateRule}
+use Rattle.market.specs.Cross.{lateRule}
 use borrow.Author.Needs.{needs}
-use Rattle.rules.proofs.market.late.Statement.{statement}
-use Rattle.rules.proofs.market.late.Tie as tie
+use Rattle.market.proofs.cross.late.Statement.{statement}
+use Rattle.market.proofs.cross.late.Tie as tie
 
 is-live-requires : tie.Need-is-live-requires
 is-live-requires c κs = search needs
