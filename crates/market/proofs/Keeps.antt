@@ -63,6 +63,7 @@ prioritised : (h : Header) (o : Order) (e : Priority) → isLive o ≡ true → 
 unfolding prioritisedOrder withDetails
 prioritised h o e alive shares shaped =
     record {
+      alive = alive;
       standing = stillLive (live-state o alive) shares;
       shaped = record { token = shaped .token; stock = shaped .stock; firm = shaped .firm; previous = shaped .previous };
       token = refl;

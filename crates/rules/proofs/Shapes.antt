@@ -54,6 +54,7 @@ module _ (o : Order) (alive : isLive o ≡ true) (shares : Open (o .shares)) (sh
   unfolding withFlags
   uncounted flags silent =
       record {
+        alive = alive;
         standing = stillLive (live-state o alive) shares;
         shaped = record { token = shaped .token; stock = shaped .stock; firm = shaped .firm; previous = shaped .previous };
         token = refl;
@@ -66,6 +67,7 @@ module _ (o : Order) (alive : isLive o ≡ true) (shares : Open (o .shares)) (sh
   unfolding withShares withFlags withSide
   recounted side flags s notice within most told =
       record {
+        alive = alive;
         standing = counted (withFlags (withSide o side) flags) s (live-state o alive) within most;
         shaped = record { token = shaped .token; stock = shaped .stock; firm = shaped .firm; previous = shaped .previous };
         token = refl;

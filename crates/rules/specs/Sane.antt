@@ -69,8 +69,9 @@ toldExecuted CancelReject = 0
 toldExecuted PriorityUpdate = 0
 toldExecuted Modified = 0
 
--- `after` is what becomes of the order `named`
+-- `after` is what becomes of the order `named`, which was live: no rule changes another
 pub record Changed (named : Order) (notice : Notice) (after : Order) : Type 0 where
+  pub alive : isLive named ≡ true
   pub standing : Standing after
   pub shaped : Shaped after
   pub token : after .token ≡ named .token
