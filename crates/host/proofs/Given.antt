@@ -6,7 +6,7 @@ use mathlib.Core.Logic.{_⊎_, inl, inr}
 use mathlib.Core.List.{List}
 use Prim.Native.Nat.{ℕ, _+_, _*_, _≤_, _<_}
 use native.Mathlib.Omega.{arith}
-use borrow.Author.Tests.{ltb-true, ltb-false, eqb-true}
+use borrow.Author.Tests.{ltb-true, lt-ltb, eqb-true}
 use lib.Dec.{ltb}
 use lib.ListN.{length, take, drop, length-take, length-drop}
 use lib.Seq.{drop-drop}
@@ -73,10 +73,13 @@ live-open s g alive = by (g .standing)
     by (inr (inl d)) = absurd (let z : _≡_ {A = ℕ} live dead = sym state ∙ d .0 in omega (arith, z))
     by (inr (inr r)) = absurd (let z : _≡_ {A = ℕ} live rejectedToken = sym state ∙ r .0 in omega (arith, z))
 
--- a used record is live with what is gone below liable, or has spent it all, or is a rejected token with nothing
-never-live : Sane noOrder
+-- and what is none is never live
+not-none : isLive noOrder ≡ true → ⊥
 unfolding isLive noOrder orderOf numberOf numberFrom
-never-live alive = absurd (let z : _≡_ {A = ℕ} 0 live = eqb-true _ _ alive in omega (arith, z))
+not-none alive = let z : _≡_ {A = ℕ} 0 live = eqb-true _ _ alive in omega (arith, z)
+
+never-live : Sane noOrder
+never-live alive = absurd (not-none alive)
 
 pub sane-from : (t : List ℕ) → Sound t → (i : ℕ) → Sane (orderFrom t i)
 unfolding orderFrom orderAt
@@ -106,3 +109,22 @@ holds t s =
       threshold = s .head .highest-threshold;
       firms = length-part (take headerSize t) 28 32 (simp length-take (omega (arith, s .size .long)));
     }
+
+-- a live order that a token names has that token, in a used record
+module _ (t token : List ℕ) where
+  pub named-used : isLive (orderNamed t token) ≡ true → placeOf t token < header t .used
+  unfolding orderNamed orderFrom
+  named-used alive = by (ltb (placeOf t token) (header t .used)) refl alive
+    where
+      by : (b : Bool) → ltb (placeOf t token) (header t .used) ≡ b → isLive (pick b (orderAt t (placeOf t token)) noOrder) ≡ true → placeOf t token < header t .used
+      by true e alive = ltb-true _ _ e
+      by false e alive = absurd (not-none alive)
+
+  pub named-is : placeOf t token < header t .used → orderNamed t token ≡ orderAt t (placeOf t token)
+  unfolding orderNamed orderFrom
+  named-is h = rw (lt-ltb _ _ h)
+
+  pub named-token : isLive (orderNamed t token) ≡ true → orderNamed t token .token ≡ token
+  named-token alive =
+      let h = named-used alive in
+      ap (λ (q : Order). q .token) (named-is h) ∙ found t token h .has
