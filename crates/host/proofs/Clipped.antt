@@ -142,7 +142,11 @@ counts-stay s e m l =
     let a = clip-same 4 (s .liable .0) (omega arith) in
     let b = clip-same 4 (s .executed .0) (omega arith) in
     let c = clip-same 4 (s .matched .0) (omega arith) in
-    cc (a, b, c)
+    rw (a, b, c)
+
+rejected-clipped : (token : List ℕ) → clipped (rejectedOrder token) ≡ rejectedOrder token
+unfolding clipped clippedCounts clip rejectedOrder newCounts noOrder orderOf digits numberOf numberFrom
+rejected-clipped token = refl
 
 pub good-clipped : (o : Order) → OrderGood o → OrderGood (clipped o)
 unfolding clipped gone
@@ -156,6 +160,3 @@ good-clipped o g = record { token = g .token; standing = by (g .standing) }
         let c = counts-stay (o .shares) (omega (arith, d .1, d .2)) (omega (arith, d .1, d .2)) (d .2) in
         inr (inl (ap (clip 1) (d .0) ∙ clip-same 1 dead (lit< tt), rw c (d .1), rw c (d .2)))
     by (inr (inr r)) = inr (inr (ap clipped r ∙ rejected-clipped (o .token)))
-
-    rejected-clipped : (token : List ℕ) → clipped (rejectedOrder token) ≡ rejectedOrder token
-    rejected-clipped token = refl

@@ -38,7 +38,9 @@ module _
     unfolding noRoom freeBytes
     room done =
         let r = right (length (w .ring)) (w .marks) (ok .ring) in
-        le-ltb _ _ (omega (arith, short (w .table) s (ok .table) done, r .short, none))
+        let h : length (message (stampOf s) (comes w s .plan)) ≤ length (w .ring) - w .marks .held =
+        omega (arith, short (w .table) s (ok .table) done, r .short, none) in
+        le-ltb _ _ h
 
     by : (done full : Bool) → isDone (comes w s .answer) ≡ done → noRoom w s (comes w s .plan) ≡ full → isBlocked (stepBy w s (comes w s) true true done full .answer) ≡ false
     unfolding isBlocked

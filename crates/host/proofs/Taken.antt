@@ -10,13 +10,14 @@ use borrow.Author.Tests.{eqb-true, ltb-true}
 use lib.Dec.{ltb, eqb}
 use lib.ListN.{length, take, drop, replicate, length-drop}
 use lib.Seq.{drop-drop}
-use Rattle.octets.specs.Choice.{pick, _⇒_⨾_}
+use Rattle.octets.specs.Choice.{pick, _⇒_⨾_, allBelow}
 use Rattle.octets.specs.Bytes.{part}
 use Rattle.octets.proofs.Laws.{length-part}
 use Rattle.octets.proofs.Guards.{guard}
 use Rattle.answers.specs.Answer.{isDone}
 use Rattle.wire.specs.Limits.{tokenSize, stampEnd}
-use Rattle.wire.specs.Letters.{space}
+use Rattle.wire.specs.Letters.{space, sides, sweeps}
+use Rattle.wire.specs.Text.{tokenByte, capital, small, digit}
 use Rattle.table.specs.Table.{header, orderNamed, orderAt, orderFrom, placeOf, sound}
 use Rattle.table.specs.Order.{isLive, noOrder}
 use Rattle.table.proofs.Judged.{legalToken, token-bytes}
@@ -25,7 +26,7 @@ use Rattle.table.proofs.Finding.{found}
 use Rattle.tape.specs.Entries.{kinds, kindOf, lengthIs, wellFormed, firstBadIn, badPlaceOf, allLegal, _isAn_, enterEntry, replaceEntry, cancelEntry, modifyEntry, executionEntry, bookCancelEntry, selfMatchEntry, priorityEntry, lateEntry, crossDoneEntry, systemEntry, stampOf, tokenOf, messageIn, enterOf, replaceOf, cancelOf, modifyOf, executionOf, bookCancelOf, selfMatchOf, priorityOf, systemOf}
 use Rattle.tape.proofs.Judged.{well-long}
 use Rattle.inbound.specs.Inbound.{enterOrderOf, replaceOrderOf}
-use Rattle.wire.specs.Layout.{Field, Layout, stampAt, layoutFor, firstBadPlace, badPlace, below, unless, orElse, isNone}
+use Rattle.wire.specs.Layout.{Field, Layout, stampAt, layoutFor, firstBadPlace, badPlace, below, oneOf, badTokenByte, unless, orElse, isNone}
 use Rattle.rules.specs.Enter.{enterRule}
 use Rattle.rules.specs.Replace.{replaceRule}
 use Rattle.rules.specs.Plan.{refused}
@@ -97,7 +98,8 @@ lead s (l ∷ ls) a k n w h = by (eqb (l .code) k) w h (lead s ls (a .1) k n)
         → (lengthIs (layoutFor ls k) n ≡ true → isNone (firstBadIn (layoutFor ls k) s) ≡ true → isNone (badPlace (below stampEnd) 1 (part s 1 8)) ≡ true)
         → isNone (badPlace (below stampEnd) 1 (part s 1 8)) ≡ true
     by true w h rest =
-        both-none _ _ (subst (λ (fs : List Field). isNone (firstBadPlace fs s) ≡ true) (a .0 .1) h) .0
+        both-none (badPlace (below stampEnd) 1 (part s 1 8)) (firstBadPlace (a .0 .0) s)
+        (subst (λ (fs : List Field). isNone (firstBadPlace fs s) ≡ true) (a .0 .1) h) .0
     by false w h rest = rest w h
 
 kinds-lead : AllLead kinds
@@ -120,13 +122,21 @@ module _ (s : List ℕ) (w : wellFormed s ≡ true) (legal : allLegal s ≡ true
   unfolding allLegal badPlaceOf layoutFor firstBadIn firstBadPlace badPlace tokenOf
   entered-legal e =
       let h : isNone (firstBadIn (layoutFor kinds 79) s) ≡ true = subst (λ (k : ℕ). isNone (firstBadIn (layoutFor kinds k) s) ≡ true) e legal in
-      sym (token-bytes 9 (part s 9 14)) ∙ both-none _ _ (both-none _ _ h .1) .0
+      let stamp = badPlace (below stampEnd) 1 (part s 1 8) in
+      let rest = orElse (badPlace (oneOf sides) 23 (part s 23 1)) (orElse (badPlace (oneOf sweeps) 50 (part s 50 1)) none) in
+      sym (token-bytes 9 (part s 9 14))
+      ∙ both-none (badTokenByte 9 (part s 9 14)) rest (both-none stamp (orElse (badTokenByte 9 (part s 9 14)) rest) h .1) .0
 
   pub replaced-legal : kindOf s ≡ 85 → legalToken (part s 23 14) ≡ true
   unfolding allLegal badPlaceOf layoutFor firstBadIn firstBadPlace badPlace
   replaced-legal e =
       let h : isNone (firstBadIn (layoutFor kinds 85) s) ≡ true = subst (λ (k : ℕ). isNone (firstBadIn (layoutFor kinds k) s) ≡ true) e legal in
-      sym (token-bytes 23 (part s 23 14)) ∙ both-none _ _ (both-none _ _ (both-none _ _ h .1) .1) .0
+      let stamp = badPlace (below stampEnd) 1 (part s 1 8) in
+      let first = badTokenByte 9 (part s 9 14) in
+      let second = badTokenByte 23 (part s 23 14) in
+      let rest = orElse (badPlace (oneOf sweeps) 50 (part s 50 1)) none in
+      sym (token-bytes 23 (part s 23 14))
+      ∙ both-none second rest (both-none first (orElse second rest) (both-none stamp (orElse first (orElse second rest)) h .1) .1) .0
 
 -- ---- what the rules keep, of the order that the entry names and the token that it may use up
 
@@ -143,7 +153,7 @@ blank : List ℕ
 blank = replicate tokenSize space
 
 blank-new : NewToken blank
-unfolding blank
+unfolding blank allBelow tokenByte capital small digit
 blank-new = record { long = refl; legal = refl }
 
 abbrev pub Kept : Order → Decision → Type 0

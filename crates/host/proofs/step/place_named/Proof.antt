@@ -1,0 +1,38 @@
+use borrow.Author.Needs.{needs}
+use Rattle.host.proofs.step.place_named.Statement.{statement}
+use Rattle.host.proofs.step.place_named.Tie as tie
+use Rattle.host.proofs.step.place_named.Reads as reads
+use Rattle.host.proofs.step.place_named.Lts as lts
+use Rattle.table.proofs.find.find.Reads as find-reads
+use Rattle.table.proofs.places.used.Reads as used-reads
+use Rattle.tape.proofs.kinds.kind_of.Reads as kind-of-reads
+use Rattle.tape.proofs.reading.token_of.Reads as token-of-reads
+
+-- src/step.rt:89:8
+kind-of-requires : tie.Need-kind-of-requires
+kind-of-requires c κs = search needs
+
+-- src/step.rt:90:9
+used-requires : tie.Need-used-requires
+used-requires c κs = ?
+
+-- src/step.rt:90:9
+returns : tie.Need-returns
+returns c = search needs
+
+-- src/step.rt:92:17
+token-of-requires : tie.Need-token-of-requires
+token-of-requires c κs = ?
+
+-- src/step.rt:92:5
+find-requires : tie.Need-find-requires
+find-requires c κs = ?
+
+-- src/step.rt:85:1
+returns-2 : tie.Need-returns-2
+returns-2 c = ?
+
+pub place-named-spec : {M : Type 1} → statement M
+place-named-spec =
+    tie.close
+    (tie.spec kind-of-requires used-requires returns token-of-requires find-requires returns-2)
