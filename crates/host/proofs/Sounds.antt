@@ -250,7 +250,7 @@ module _ (t s : List ℕ) (ok : sound t ≡ true) (done : isDone (comesTo t s .a
       }
 
   written-sound : sound (tableAfter t s p) ≡ true
-  unfolding tableAfter written
+  unfolding tableAfter written headerAfter
   written-sound =
       let long = kept₂ .long in
       header-keeps after whole two (same-size t two long (S .size)) (rw (same-records t two long) good) (kept₂ .records)

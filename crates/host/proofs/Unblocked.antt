@@ -18,7 +18,17 @@ use Rattle.rules.specs.Enter.{enterFault, enterOutcome, enterRule}
 use Rattle.rules.specs.Replace.{badDetails, replaceOpen, replaceRule}
 use Rattle.rules.specs.Cancel.{cancelIgnored, lateCancel, cancelRule}
 use Rattle.rules.specs.Modify.{modifyIgnored, modifyRule}
-use Rattle.rules.specs.Types.{EnterOrder, ReplaceOrder, CancelOrder, ModifyOrder, Execution, BookCancel, SelfMatch, Priority, System, Fault, Letter, Absent}
+use Rattle.inbound.specs.declared.enter_order.EnterOrder.{EnterOrder}
+use Rattle.inbound.specs.declared.replace_order.ReplaceOrder.{ReplaceOrder}
+use Rattle.inbound.specs.declared.cancel_order.CancelOrder.{CancelOrder}
+use Rattle.inbound.specs.declared.modify_order.ModifyOrder.{ModifyOrder}
+use Rattle.tape.specs.declared.entry.Execution.{Execution}
+use Rattle.tape.specs.declared.entry.BookCancel.{BookCancel}
+use Rattle.tape.specs.declared.entry.SelfMatch.{SelfMatch}
+use Rattle.tape.specs.declared.entry.Priority.{Priority}
+use Rattle.tape.specs.declared.entry.System.{System}
+use Rattle.rules.specs.declared.enter.Fault.{Fault}
+use Rattle.rules.specs.declared.enter.Fault.the-variants.{Letter, Absent}
 use Rattle.market.specs.Taken.{sharesWrong, executionRule, bookCancelRule, selfMatchRule}
 use Rattle.market.specs.Priority.{priorityRule}
 use Rattle.market.specs.Cross.{lateRule, crossDoneRule}

@@ -8,12 +8,14 @@ use table::places::store_order;
 
 ghost use mathlib.Core.Path.{_≡_};
 ghost use mathlib.Core.Bool.{true};
-ghost use Prim.Native.Nat.{_<_, _≤_};
+ghost use Prim.Native.Nat.{_+_, _<_, _≤_};
+ghost use lib.Dec.{eqb};
+ghost use Rattle.octets.specs.Choice.{pick};
 ghost use lib.ListN.{length};
 ghost use Rattle.table.specs.Limits.{headerSize, mostRecords, endOfReferences};
 ghost use Rattle.table.specs.Order.{isUsed};
 ghost use Rattle.table.specs.Table.{HasRecord, header};
-ghost use Rattle.host.specs.Step.{storeIf, headerAfter, written};
+ghost use Rattle.host.specs.Step.{oneIf, storeIf, headerAfter, written};
 
 // An order of state 0 says 'none', and nothing is stored.
 fn store_if(table: &mut [u8], i: usize, o: Order)
@@ -25,7 +27,39 @@ fn store_if(table: &mut [u8], i: usize, o: Order)
     }
 }
 
-// The header after a done entry: its stamp, and one more used record or reference where the plan takes one.
+// The day that begins, or the day as it is.
+fn begun(day: u8, begins: u8) -> u8
+    ensures { λ r. ⌜ r ≡ pick (eqb begins 0) day begins ⌝ }
+{
+    if begins == 0 {
+        return day;
+    }
+    begins
+}
+
+// One more record is used, or none.
+fn counted(used: u32, more: bool) -> u32
+    requires { ⌜ used ≤ mostRecords ⌝ }
+    ensures { λ r. ⌜ r ≡ used + oneIf more ⌝ }
+{
+    if more {
+        return used + 1;
+    }
+    used
+}
+
+// One more reference is taken, or none.
+fn numbered(reference: u64, more: bool) -> u64
+    requires { ⌜ reference ≤ endOfReferences ⌝ }
+    ensures { λ r. ⌜ r ≡ reference + oneIf more ⌝ }
+{
+    if more {
+        return reference + 1;
+    }
+    reference
+}
+
+// The header after a done entry: its stamp, and what the plan begins, uses and takes.
 fn header_after(h: Header, stamp: u64, plan: Plan) -> Header
     requires { ⌜ (h .used ≤ mostRecords) × (h .reference ≤ endOfReferences) ⌝ }
     ensures { λ r. ⌜ r ≡ headerAfter h stamp plan ⌝ }
@@ -33,12 +67,15 @@ fn header_after(h: Header, stamp: u64, plan: Plan) -> Header
     let added = plan.added;
     let firms = h.firms;
     let threshold = h.threshold;
+    let day = begun(h.day, plan.begins);
+    let used = counted(h.used, is_used(added));
+    let reference = numbered(h.reference, plan.numbered);
     Header {
-        day: if plan.begins == 0 { h.day } else { plan.begins },
+        day,
         count: h.count,
-        used: if is_used(added) { h.used + 1 } else { h.used },
+        used,
         last: stamp,
-        reference: if plan.numbered { h.reference + 1 } else { h.reference },
+        reference,
         threshold,
         firms,
     }

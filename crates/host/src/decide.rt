@@ -44,7 +44,7 @@ ghost use Rattle.host.specs.Step.{decide, decideMarket, withinLimits, Na
 // The rule of the entry's kind. `named` is the order that the entry names.
 pub fn decide(table: &[u8], entry: &[u8], h: Header, named: Order) -> Decision
     requires { ⌜ (sound (now table) ≡ true) × (wellFormed (now entry) ≡ true) ⌝ }
-    requires { ⌜ (h ≡ header (now table)) × Names (now table) named (now entry) ⌝ }
+    requires { ⌜ (h ≡ header (now table)) × (Names (now table) named (now entry) × Sane named) ⌝ }
     ensures { λ r. ⌜ r ≡ decide (now (table .entry)) (now (entry .entry)) ⌝ }
 {
     let kind = kind_of(entry);

@@ -1,73 +1,123 @@
+-- Each return is the rule that the entry's kind comes to. Assumes nothing.
+use Prim.Native.Nat.{ℕ, _≤_}
+use mathlib.Core.Path.{_≡_, refl, sym, ap, _∙_, subst}
+use native.Mathlib.Omega.{arith}
 use borrow.Author.Needs.{needs}
+use Rattle.wire.specs.Layout.{layoutFor}
+use Rattle.table.specs.Limits.{mostFirms}
+use Rattle.table.proofs.Soundness.{of-sound}
+use Rattle.tape.specs.Entries.{kindOf}
+use Rattle.tape.proofs.Judged.{well-long}
+use Rattle.host.specs.Types.{Header}
+use Rattle.host.proofs.Dispatch.{on-enter, on-replace, on-cancel, on-modify, on-market, names-its}
 use Rattle.host.proofs.decide.decide.Statement.{statement}
 use Rattle.host.proofs.decide.decide.Tie as tie
-use Rattle.host.proofs.decide.decide.Reads as reads
-use Rattle.host.proofs.decide.decide.Lts as lts
-use Rattle.host.proofs.decide.decide_market.Reads as decide-market-reads
-use Rattle.host.proofs.decide.decide_replace.Reads as decide-replace-reads
-use Rattle.rules.proofs.cancel.cancel.Reads as cancel-reads
-use Rattle.rules.proofs.enter.enter.Reads as enter-reads
-use Rattle.rules.proofs.modify.modify.Reads as modify-reads
-use Rattle.tape.proofs.kinds.kind_of.Reads as kind-of-reads
-use Rattle.tape.proofs.reading.cancel_of.Reads as cancel-of-reads
-use Rattle.tape.proofs.reading.enter_of.Reads as enter-of-reads
-use Rattle.tape.proofs.reading.modify_of.Reads as modify-of-reads
 
--- src/decide.rt:50:9
 kind-of-requires : tie.Need-kind-of-requires
 kind-of-requires c κs = search needs
 
--- src/decide.rt:52:32
+-- the kind that each test found
+kind-1 : (c : tie.Then1) → kindOf (c .before .before .before .before .args .entry .now) ≡ 79
+kind-1 c = sym (c .before .kind-of .ensures) ∙ c .if1 .taken
+
+kind-2 : (c : tie.Then2) → kindOf (c .before .before .before .before .before .args .entry .now) ≡ 85
+kind-2 c = sym (c .before .before .kind-of .ensures) ∙ c .if2 .taken
+
+kind-3 : (c : tie.Then3) → kindOf (c .before .before .before .before .before .before .args .entry .now) ≡ 88
+kind-3 c = sym (c .before .before .before .kind-of .ensures) ∙ c .if3 .taken
+
+kind-4 : (c : tie.Then4) → kindOf (c .before .before .before .before .before .before .before .args .entry .now) ≡ 77
+kind-4 c = sym (c .before .before .before .before .kind-of .ensures) ∙ c .if4 .taken
+
 enter-of-requires : tie.Need-enter-of-requires
-enter-of-requires c κs = ?
+unfolding layoutFor
+enter-of-requires c κs = well-long _ 79 (kind-1 c) (c .before .before .before .before .pre .0 .1)
 
--- src/decide.rt:52:9
 enter-requires : tie.Need-enter-requires
-enter-requires c κs = ?
+enter-requires c κs =
+    let start = c .before .before .before .before .before in
+    subst (λ (q : Header). q .count ≤ mostFirms) (sym (start .pre .1 .0)) (of-sound _ (start .pre .0 .0) .head .most-firms)
 
--- src/decide.rt:52:9
 returns : tie.Need-returns
-returns c = ?
+returns c =
+    let t = c .before .before in
+    let start = t .before .before .before .before in
+    let head = start .pre .1 .0 in
+    let named = names-its _ _ _ (start .pre .1 .1 .0) (kind-1 t) (λ z. omega (arith, z)) in
+    let read = c .before .enter-of .ensures in
+    let done = c .enter .ensures in
+    let right = on-enter (start .args .table .now) (start .args .entry .now) (kind-1 t) in
+    cc (head, named, read, done, right)
 
--- src/decide.rt:55:9
 decide-replace-requires : tie.Need-decide-replace-requires
-decide-replace-requires c κs = ?
+unfolding layoutFor
+decide-replace-requires c κs =
+    let start = c .before .before .before .before .before in
+    (start .pre .0 .0, (well-long _ 85 (kind-2 c) (start .pre .0 .1), start .pre .1 .1 .1))
 
--- src/decide.rt:55:9
 returns-2 : tie.Need-returns-2
-returns-2 c = ?
+returns-2 c =
+    let t = c .before in
+    let start = t .before .before .before .before .before in
+    let head = start .pre .1 .0 in
+    let named = names-its _ _ _ (start .pre .1 .1 .0) (kind-2 t) (λ z. omega (arith, z)) in
+    let done = c .decide-replace .ensures in
+    let right = on-replace (start .args .table .now) (start .args .entry .now) (kind-2 t) in
+    cc (head, named, done, right)
 
--- src/decide.rt:58:30
 cancel-of-requires : tie.Need-cancel-of-requires
-cancel-of-requires c κs = ?
+unfolding layoutFor
+cancel-of-requires c κs = well-long _ 88 (kind-3 c) (c .before .before .before .before .before .before .pre .0 .1)
 
--- src/decide.rt:58:9
 cancel-requires : tie.Need-cancel-requires
-cancel-requires c κs = ?
+cancel-requires c κs = c .before .before .before .before .before .before .before .pre .1 .1 .1
 
--- src/decide.rt:58:9
 returns-3 : tie.Need-returns-3
-returns-3 c = ?
+returns-3 c =
+    let t = c .before .before in
+    let start = t .before .before .before .before .before .before in
+    let named = names-its _ _ _ (start .pre .1 .1 .0) (kind-3 t) (λ z. omega (arith, z)) in
+    let read = c .before .cancel-of .ensures in
+    let done = c .cancel .ensures in
+    let right = on-cancel (start .args .table .now) (start .args .entry .now) (kind-3 t) in
+    cc (named, read, done, right)
 
--- src/decide.rt:61:33
 modify-of-requires : tie.Need-modify-of-requires
-modify-of-requires c κs = ?
+unfolding layoutFor
+modify-of-requires c κs = well-long _ 77 (kind-4 c) (c .before .before .before .before .before .before .before .pre .0 .1)
 
--- src/decide.rt:61:9
 modify-requires : tie.Need-modify-requires
-modify-requires c κs = ?
+modify-requires c κs = c .before .before .before .before .before .before .before .before .pre .1 .1 .1
 
--- src/decide.rt:61:9
 returns-4 : tie.Need-returns-4
-returns-4 c = ?
+returns-4 c =
+    let t = c .before .before in
+    let start = t .before .before .before .before .before .before .before in
+    let head = start .pre .1 .0 in
+    let named = names-its _ _ _ (start .pre .1 .1 .0) (kind-4 t) (λ z. omega (arith, z)) in
+    let read = c .before .modify-of .ensures in
+    let done = c .modify .ensures in
+    let right = on-modify (start .args .table .now) (start .args .entry .now) (kind-4 t) in
+    cc (head, named, read, done, right)
 
--- src/decide.rt:63:5
 decide-market-requires : tie.Need-decide-market-requires
-decide-market-requires c κs = ?
+decide-market-requires c κs =
+    let start = c .before .before .before .before .before .before .before in
+    (start .pre .0 .1, start .pre .1 .1 .1)
 
--- src/decide.rt:45:1
 returns-5 : tie.Need-returns-5
-returns-5 c = ?
+returns-5 c =
+    let e = c .before in
+    let start = e .before .before .before .before .before .before .before in
+    let head = start .pre .1 .0 in
+    let kind = e .before .before .before .before .kind-of .ensures in
+    let right = on-market (start .args .table .now) (start .args .entry .now) _ (start .pre .1 .1 .0)
+    (λ z. e .before .before .before .if1 .left (kind ∙ z))
+    (λ z. e .before .before .if2 .left (kind ∙ z))
+    (λ z. e .before .if3 .left (kind ∙ z))
+    (λ z. e .if4 .left (kind ∙ z)) in
+    let done = c .decide-market .ensures in
+    cc (head, done, right)
 
 pub decide-spec : {M : Type 1} → statement M
 decide-spec =

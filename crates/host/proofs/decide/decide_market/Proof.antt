@@ -1,110 +1,159 @@
+-- Each return is the rule that the entry's kind comes to. Assumes nothing.
+use Prim.Native.Nat.{ℕ}
+use mathlib.Core.Path.{_≡_, sym, ap, _∙_}
 use borrow.Author.Needs.{needs}
+use Rattle.wire.specs.Layout.{layoutFor}
+use Rattle.tape.specs.Entries.{kindOf}
+use Rattle.tape.proofs.Judged.{well-long}
+use Rattle.host.proofs.Dispatch.{on-execution, on-book-cancel, on-self-match, on-priority, on-late, on-cross-done, on-system, on-nothing}
 use Rattle.host.proofs.decide.decide_market.Statement.{statement}
 use Rattle.host.proofs.decide.decide_market.Tie as tie
-use Rattle.host.proofs.decide.decide_market.Reads as reads
-use Rattle.host.proofs.decide.decide_market.Lts as lts
-use Rattle.market.proofs.cross.cross_done.Reads as cross-done-reads
-use Rattle.market.proofs.cross.late.Reads as late-reads
-use Rattle.market.proofs.day.system.Reads as system-reads
-use Rattle.market.proofs.priority.priority.Reads as priority-reads
-use Rattle.market.proofs.taken.book_cancel.Reads as book-cancel-reads
-use Rattle.market.proofs.taken.execution.Reads as execution-reads
-use Rattle.market.proofs.taken.self_match.Reads as self-match-reads
-use Rattle.rules.proofs.plan.refused.Reads as refused-reads
-use Rattle.tape.proofs.kinds.kind_of.Reads as kind-of-reads
-use Rattle.tape.proofs.reading.book_cancel_of.Reads as book-cancel-of-reads
-use Rattle.tape.proofs.reading.execution_of.Reads as execution-of-reads
-use Rattle.tape.proofs.reading.priority_of.Reads as priority-of-reads
-use Rattle.tape.proofs.reading.self_match_of.Reads as self-match-of-reads
-use Rattle.tape.proofs.reading.system_of.Reads as system-of-reads
 
--- src/decide.rt:82:9
 kind-of-requires : tie.Need-kind-of-requires
 kind-of-requires c κs = search needs
 
--- src/decide.rt:84:36
-execution-of-requires : tie.Need-execution-of-requires
-execution-of-requires c κs = ?
+-- the kind that each test found
+kind-1 : (c : tie.Then1) → kindOf (c .before .before .before .args .entry .now) ≡ 101
+kind-1 c = sym (c .before .kind-of .ensures) ∙ c .if1 .taken
 
--- src/decide.rt:84:9
+kind-2 : (c : tie.Then2) → kindOf (c .before .before .before .before .args .entry .now) ≡ 99
+kind-2 c = sym (c .before .before .kind-of .ensures) ∙ c .if2 .taken
+
+kind-3 : (c : tie.Then3) → kindOf (c .before .before .before .before .before .args .entry .now) ≡ 113
+kind-3 c = sym (c .before .before .before .kind-of .ensures) ∙ c .if3 .taken
+
+kind-4 : (c : tie.Then4) → kindOf (c .before .before .before .before .before .before .args .entry .now) ≡ 112
+kind-4 c = sym (c .before .before .before .before .kind-of .ensures) ∙ c .if4 .taken
+
+kind-5 : (c : tie.Then5) → kindOf (c .before .before .before .before .before .before .before .args .entry .now) ≡ 108
+kind-5 c = sym (c .before .before .before .before .before .kind-of .ensures) ∙ c .if5 .taken
+
+kind-6 : (c : tie.Then6) → kindOf (c .before .before .before .before .before .before .before .before .args .entry .now) ≡ 102
+kind-6 c = sym (c .before .before .before .before .before .before .kind-of .ensures) ∙ c .if6 .taken
+
+kind-7 : (c : tie.Then7) → kindOf (c .before .before .before .before .before .before .before .before .before .args .entry .now) ≡ 115
+kind-7 c = sym (c .before .before .before .before .before .before .before .kind-of .ensures) ∙ c .if7 .taken
+
+execution-of-requires : tie.Need-execution-of-requires
+unfolding layoutFor
+execution-of-requires c κs = well-long _ 101 (kind-1 c) (c .before .before .before .pre .0)
+
 execution-requires : tie.Need-execution-requires
 execution-requires c κs = search needs
 
--- src/decide.rt:84:9
 returns : tie.Need-returns
-returns c = ?
+returns c =
+    let t = c .before .before in
+    let start = t .before .before .before in
+    let right = on-execution (start .args .h) (start .args .named) (start .args .entry .now) (kind-1 t) in
+    let read = c .before .execution-of .ensures in
+    let done = c .execution .ensures in
+    cc (read, done, right)
 
--- src/decide.rt:87:35
 book-cancel-of-requires : tie.Need-book-cancel-of-requires
-book-cancel-of-requires c κs = ?
+unfolding layoutFor
+book-cancel-of-requires c κs = well-long _ 99 (kind-2 c) (c .before .before .before .before .pre .0)
 
--- src/decide.rt:87:9
 book-cancel-requires : tie.Need-book-cancel-requires
 book-cancel-requires c κs = search needs
 
--- src/decide.rt:87:9
 returns-2 : tie.Need-returns-2
-returns-2 c = ?
+returns-2 c =
+    let t = c .before .before in
+    let start = t .before .before .before .before in
+    let right = on-book-cancel (start .args .h) (start .args .named) (start .args .entry .now) (kind-2 t) in
+    let read = c .before .book-cancel-of .ensures in
+    let done = c .book-cancel .ensures in
+    cc (read, done, right)
 
--- src/decide.rt:90:37
 self-match-of-requires : tie.Need-self-match-of-requires
-self-match-of-requires c κs = ?
+unfolding layoutFor
+self-match-of-requires c κs = well-long _ 113 (kind-3 c) (c .before .before .before .before .before .pre .0)
 
--- src/decide.rt:90:9
 self-match-requires : tie.Need-self-match-requires
 self-match-requires c κs = search needs
 
--- src/decide.rt:90:9
 returns-3 : tie.Need-returns-3
-returns-3 c = ?
+returns-3 c =
+    let t = c .before .before in
+    let start = t .before .before .before .before .before in
+    let right = on-self-match (start .args .h) (start .args .named) (start .args .entry .now) (kind-3 t) in
+    let read = c .before .self-match-of .ensures in
+    let done = c .self-match .ensures in
+    cc (read, done, right)
 
--- src/decide.rt:93:35
 priority-of-requires : tie.Need-priority-of-requires
-priority-of-requires c κs = ?
+unfolding layoutFor
+priority-of-requires c κs = well-long _ 112 (kind-4 c) (c .before .before .before .before .before .before .pre .0)
 
--- src/decide.rt:93:9
 priority-requires : tie.Need-priority-requires
 priority-requires c κs = search needs
 
--- src/decide.rt:93:9
 returns-4 : tie.Need-returns-4
-returns-4 c = ?
+returns-4 c =
+    let t = c .before .before in
+    let start = t .before .before .before .before .before .before in
+    let right = on-priority (start .args .h) (start .args .named) (start .args .entry .now) (kind-4 t) in
+    let read = c .before .priority-of .ensures in
+    let done = c .priority .ensures in
+    cc (read, done, right)
 
--- src/decide.rt:96:9
 late-requires : tie.Need-late-requires
 late-requires c κs = search needs
 
--- src/decide.rt:96:9
 returns-5 : tie.Need-returns-5
-returns-5 c = ?
+returns-5 c =
+    let t = c .before in
+    let start = t .before .before .before .before .before .before .before in
+    let right = on-late (start .args .h) (start .args .named) (start .args .entry .now) (kind-5 t) in
+    let done = c .late .ensures in
+    cc (done, right)
 
--- src/decide.rt:99:9
 cross-done-requires : tie.Need-cross-done-requires
 cross-done-requires c κs = search needs
 
--- src/decide.rt:99:9
 returns-6 : tie.Need-returns-6
-returns-6 c = ?
+returns-6 c =
+    let t = c .before in
+    let start = t .before .before .before .before .before .before .before .before in
+    let right = on-cross-done (start .args .h) (start .args .named) (start .args .entry .now) (kind-6 t) in
+    let done = c .cross-done .ensures in
+    cc (done, right)
 
--- src/decide.rt:102:26
 system-of-requires : tie.Need-system-of-requires
-system-of-requires c κs = ?
+unfolding layoutFor
+system-of-requires c κs = well-long _ 115 (kind-7 c) (c .before .before .before .before .before .before .before .before .before .pre .0)
 
--- src/decide.rt:102:9
 system-requires : tie.Need-system-requires
 system-requires c κs = search needs
 
--- src/decide.rt:102:9
 returns-7 : tie.Need-returns-7
-returns-7 c = ?
+returns-7 c =
+    let t = c .before .before in
+    let start = t .before .before .before .before .before .before .before .before .before in
+    let right = on-system (start .args .h) (start .args .named) (start .args .entry .now) (kind-7 t) in
+    let read = c .before .system-of .ensures in
+    let done = c .system .ensures in
+    cc (read, done, right)
 
--- src/decide.rt:104:5
 refused-requires : tie.Need-refused-requires
 refused-requires c κs = search needs
 
--- src/decide.rt:78:1
 returns-8 : tie.Need-returns-8
-returns-8 c = ?
+returns-8 c =
+    let e = c .before in
+    let start = e .before .before .before .before .before .before .before .before .before in
+    let kind = e .before .before .before .before .before .before .before .kind-of .ensures in
+    let right = on-nothing (start .args .h) (start .args .named) (start .args .entry .now)
+    (λ z. e .before .before .before .before .before .before .if1 .left (kind ∙ z))
+    (λ z. e .before .before .before .before .before .if2 .left (kind ∙ z))
+    (λ z. e .before .before .before .before .if3 .left (kind ∙ z))
+    (λ z. e .before .before .before .if4 .left (kind ∙ z))
+    (λ z. e .before .before .if5 .left (kind ∙ z))
+    (λ z. e .before .if6 .left (kind ∙ z))
+    (λ z. e .if7 .left (kind ∙ z)) in
+    let done = c .refused .ensures in
+    cc (done, right)
 
 pub decide-market-spec : {M : Type 1} → statement M
 decide-market-spec =
