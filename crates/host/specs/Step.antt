@@ -176,6 +176,9 @@ pub record Writable (t : List ℕ) (h : Header) (place : ℕ) (s : List ℕ) (p 
 abbrev pub Names : List ℕ → Order → List ℕ → Type 0
 Names t named s = (kindOf s ≡ systemEntry .code → ⊥) → named ≡ orderNamed t (tokenOf s)
 
+abbrev pub NamedAt : List ℕ → ℕ → List ℕ → Type 0
+NamedAt t place s = (kindOf s ≡ systemEntry .code → ⊥) → place ≡ placeOf t (tokenOf s)
+
 -- the answer and the marks that come back, and the table and the ring as they are then
 pub record Leaves (o : Outcome) (answer : Answer) (marks : Marks) (table ring : List ℕ) : Type 0 where
   pub answered : answer ≡ o .answer

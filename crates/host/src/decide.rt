@@ -39,10 +39,20 @@ ghost use Rattle.table.specs.Table.{sound, header, orderNamed};
 ghost use Rattle.tape.specs.Entries.{kindOf, wellFormed, replaceOf};
 ghost use Rattle.rules.specs.Sane.{Sane};
 ghost use Rattle.rules.specs.Replace.{replaceRule};
-ghost use Rattle.host.specs.Step.{decide, decideMarket, withinLimits, Names};
+ghost use Rattle.host.specs.Step.{decide, decideMarket, withinLimits, Names, NamedAt};
+
+// What a legal entry in time comes to. `place` is where the order that it names stands.
+pub fn comes_to(table: &[u8], entry: &[u8], h: Header, place: usize) -> Decision
+    requires { ⌜ (sound (now table) ≡ true) × (wellFormed (now entry) ≡ true) ⌝ }
+    requires { ⌜ (h ≡ header (now table)) × NamedAt (now table) place (now entry) ⌝ }
+    ensures { λ r. ⌜ r ≡ withinLimits (now (table .entry)) (decide (now (table .entry)) (now (entry .entry))) ⌝ }
+{
+    let named = order_from(table, place);
+    within_limits(table, h, decide(table, entry, h, named))
+}
 
 // The rule of the entry's kind. `named` is the order that the entry names.
-pub fn decide(table: &[u8], entry: &[u8], h: Header, named: Order) -> Decision
+fn decide(table: &[u8], entry: &[u8], h: Header, named: Order) -> Decision
     requires { ⌜ (sound (now table) ≡ true) × (wellFormed (now entry) ≡ true) ⌝ }
     requires { ⌜ (h ≡ header (now table)) × (Names (now table) named (now entry) × Sane named) ⌝ }
     ensures { λ r. ⌜ r ≡ decide (now (table .entry)) (now (entry .entry)) ⌝ }
@@ -105,7 +115,7 @@ fn decide_market(entry: &[u8], h: Header, named: Order) -> Decision
 }
 
 // 8: a token must be stored and no record is free, or a reference is needed and none is left. Asked of the plan, so that no rule asks it.
-pub fn within_limits(table: &[u8], h: Header, d: Decision) -> Decision
+fn within_limits(table: &[u8], h: Header, d: Decision) -> Decision
     requires { ⌜ (headerSize ≤ length (now table)) × (h ≡ header (now table)) ⌝ }
     ensures { λ r. ⌜ r ≡ withinLimits (now (table .entry)) d ⌝ }
 {

@@ -2,15 +2,13 @@
 use answers::Answer;
 use answers::number;
 use crate::commit::commit;
-use crate::decide::decide;
-use crate::decide::within_limits;
+use crate::decide::comes_to;
 use outbox::marks::Marks;
 use outbox::marks::ring_good;
 use outbox::put::append;
 use rules::plan::Decision;
 use rules::sent::message;
 use table::find::find;
-use table::find::order_from;
 use table::header::Header;
 use table::places::header;
 use table::places::used;
@@ -23,13 +21,13 @@ use tape::reading::token_of;
 ghost use mathlib.Core.Path.{_≡_};
 ghost use mathlib.Core.Bool.{true};
 ghost use Prim.Native.Nat.{_≤_};
-ghost use lib.ListN.{length};
+ghost use lib.ListN.{length, take};
 ghost use Rattle.answers.specs.Answer.{isDone};
 ghost use Rattle.answers.specs.declared.Answer.the-variants.{Done};
-ghost use Rattle.outbox.specs.Outbox.{ringGood};
-ghost use Rattle.table.specs.Table.{sound, placeOf};
-ghost use Rattle.tape.specs.Entries.{kindOf, tokenOf, entryAnswer, systemEntry};
-ghost use Rattle.host.specs.Step.{step, offer, settle, Writable, world, Leaves};
+ghost use Rattle.outbox.specs.Outbox.{ringGood, freeBytes, ringWith, marksWith};
+ghost use Rattle.table.specs.Table.{sound};
+ghost use Rattle.tape.specs.Entries.{entryAnswer};
+ghost use Rattle.host.specs.Step.{step, offer, settle, Writable, NamedAt, world, Leaves};
 
 // What a step answers, with the marks after it.
 pub struct Stepped {
@@ -68,6 +66,14 @@ pub fn offer(table: &mut [u8], ring: &mut [u8], marks: Marks, entry: &[u8]) -> S
             marks,
         };
     }
+    take(table, ring, marks, entry)
+}
+
+// A legal entry: in time or not, and then what it comes to.
+fn take(table: &mut [u8], ring: &mut [u8], marks: Marks, entry: &[u8]) -> Stepped
+    requires { ⌜ (sound (now table) ≡ true) × ((ringGood (length (now ring)) marks ≡ true) × (entryAnswer (now entry) ≡ Done)) ⌝ }
+    ensures { λ r. ⌜ Leaves (offer (world (now (table .entry)) (now (ring .entry)) marks) (now (entry .entry))) (r .answer) (r .marks) (now (table .exit)) (now (ring .exit)) ⌝ }
+{
     let h = header(table);
     if stamp_of(entry) < h.last {
         return Stepped {
@@ -76,15 +82,14 @@ pub fn offer(table: &mut [u8], ring: &mut [u8], marks: Marks, entry: &[u8]) -> S
         };
     }
     let place = place_named(table, entry);
-    let named = order_from(table, place);
-    let d = within_limits(table, h, decide(table, entry, h, named));
+    let d = comes_to(table, entry, h, place);
     settle(table, ring, marks, entry, h, place, d)
 }
 
 // Where the order that the entry names stands; behind the used records for the system's entries, which name none.
 fn place_named(table: &[u8], entry: &[u8]) -> usize
     requires { ⌜ (sound (now table) ≡ true) × (entryAnswer (now entry) ≡ Done) ⌝ }
-    ensures { λ r. ⌜ ((kindOf (now (entry .entry)) ≡ systemEntry .code → ⊥) → r ≡ placeOf (now (table .entry)) (tokenOf (now (entry .entry)))) ⌝ }
+    ensures { λ r. ⌜ NamedAt (now (table .entry)) r (now (entry .entry)) ⌝ }
 {
     if kind_of(entry) == b's' {
         return used(table);
@@ -123,9 +128,17 @@ fn settle(
         };
     }
     commit(table, h, place, stamp, plan);
-    let after = append(ring, marks, &bytes[0..len]);
+    let after = append_front(ring, marks, &bytes, len);
     Stepped {
         answer: Answer::Done,
         marks: after,
     }
+}
+
+// The first `len` bytes go behind the held ones.
+fn append_front(ring: &mut [u8], marks: Marks, bytes: &[u8], len: usize) -> Marks
+    requires { ⌜ (ringGood (length (now ring)) marks ≡ true) × ((len ≤ freeBytes (length (now ring)) marks) × (len ≤ length (now bytes))) ⌝ }
+    ensures { λ r. ⌜ (r ≡ marksWith marks len) × (now (ring .exit) ≡ ringWith (now (ring .entry)) marks (take len (now (bytes .entry)))) ⌝ }
+{
+    append(ring, marks, &bytes[0..len])
 }

@@ -1,3 +1,6 @@
+-- The two records and the header, one after the other. Assumes nothing.
+use native.Mathlib.Omega.{arith}
+use Rattle.host.specs.Step.{written}
 use borrow.Author.Needs.{needs}
 use Rattle.host.proofs.commit.commit.Statement.{statement}
 use Rattle.host.proofs.commit.commit.Tie as tie
@@ -17,7 +20,7 @@ cast-store-if c = search needs
 
 -- src/commit.rt:56:5
 store-if-requires-2 : tie.Need-store-if-requires-2
-store-if-requires-2 c κs = ?
+store-if-requires-2 c κs = λ u. omega (arith, c .before .before .before .before .before .before .before .before .before .pre .1 .1 u)
 
 -- src/commit.rt:57:25
 header-after-requires : tie.Need-header-after-requires
@@ -33,7 +36,8 @@ same-length c = search needs
 
 -- src/commit.rt:48:1
 returns : tie.Need-returns
-returns c = ?
+unfolding written
+returns c = cc
 
 pub commit-spec : {M : Type 1} → statement M
 commit-spec =

@@ -1,3 +1,6 @@
+-- Stored where there is an order, and nothing written where there is none. Assumes nothing.
+use mathlib.Core.Path.{_≡_, sym, _∙_}
+use Rattle.host.specs.Step.{storeIf}
 use borrow.Author.Needs.{needs}
 use Rattle.host.proofs.commit.store_if.Statement.{statement}
 use Rattle.host.proofs.commit.store_if.Tie as tie
@@ -12,7 +15,8 @@ is-used-requires c κs = search needs
 
 -- src/commit.rt:24:9
 store-order-requires : tie.Need-store-order-requires
-store-order-requires c κs = ?
+store-order-requires c κs =
+    c .before .before .before .before .pre (sym (c .before .before .is-used .ensures) ∙ c .before .if1 .taken)
 
 -- src/commit.rt:19:1
 same-length : tie.Need-same-length
@@ -20,11 +24,15 @@ same-length c = search needs
 
 -- src/commit.rt:19:1
 returns : tie.Need-returns
-returns c = ?
+unfolding storeIf
+returns c =
+    let u = sym (c .before .before .before .before .before .is-used .ensures) ∙ c .before .before .before .before .if1 .taken in
+    rw u (c .before .before .store-order .ensures)
 
 -- src/commit.rt:19:1
 returns-2 : tie.Need-returns-2
-returns-2 c = ?
+unfolding storeIf
+returns-2 c = rw (sym (c .before .is-used .ensures) ∙ c .if1 .left)
 
 pub store-if-spec : {M : Type 1} → statement M
 store-if-spec =

@@ -7,43 +7,43 @@ use Rattle.answers.proofs.number.Reads as number-reads
 use Rattle.rules.proofs.plan.refused.Reads as refused-reads
 use Rattle.table.proofs.order.is_used.Reads as is-used-reads
 
--- src/decide.rt:113:8
+-- src/decide.rt:123:8
 number-requires : tie.Need-number-requires
 number-requires c κs = search needs
 
--- src/decide.rt:114:9
+-- src/decide.rt:124:9
 returns : tie.Need-returns
 returns c = ?
 
--- src/decide.rt:118:20
+-- src/decide.rt:128:20
 sub-records : tie.Need-sub-records
 sub-records c = search needs
 
--- src/decide.rt:119:8
+-- src/decide.rt:129:8
 is-used-requires : tie.Need-is-used-requires
 is-used-requires c κs = search needs
 
--- src/decide.rt:119:37
+-- src/decide.rt:129:37
 cast-if2 : tie.Need-cast-if2
 cast-if2 c = search needs
 
--- src/decide.rt:120:9
+-- src/decide.rt:130:9
 refused-requires : tie.Need-refused-requires
 refused-requires c κs = search needs
 
--- src/decide.rt:120:9
+-- src/decide.rt:130:9
 returns-2 : tie.Need-returns-2
 returns-2 c = ?
 
--- src/decide.rt:123:9
+-- src/decide.rt:133:9
 refused-requires-2 : tie.Need-refused-requires-2
 refused-requires-2 c κs = search needs
 
--- src/decide.rt:123:9
+-- src/decide.rt:133:9
 returns-3 : tie.Need-returns-3
 returns-3 c = ?
 
--- src/decide.rt:108:1
+-- src/decide.rt:118:1
 returns-4 : tie.Need-returns-4
 returns-4 c = ?
 

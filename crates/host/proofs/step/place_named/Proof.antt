@@ -8,27 +8,27 @@ use Rattle.table.proofs.places.used.Reads as used-reads
 use Rattle.tape.proofs.kinds.kind_of.Reads as kind-of-reads
 use Rattle.tape.proofs.reading.token_of.Reads as token-of-reads
 
--- src/step.rt:89:8
+-- src/step.rt:94:8
 kind-of-requires : tie.Need-kind-of-requires
 kind-of-requires c κs = search needs
 
--- src/step.rt:90:9
+-- src/step.rt:95:9
 used-requires : tie.Need-used-requires
 used-requires c κs = ?
 
--- src/step.rt:90:9
+-- src/step.rt:95:9
 returns : tie.Need-returns
 returns c = search needs
 
--- src/step.rt:92:17
+-- src/step.rt:97:17
 token-of-requires : tie.Need-token-of-requires
 token-of-requires c κs = ?
 
--- src/step.rt:92:5
+-- src/step.rt:97:5
 find-requires : tie.Need-find-requires
 find-requires c κs = ?
 
--- src/step.rt:85:1
+-- src/step.rt:90:1
 returns-2 : tie.Need-returns-2
 returns-2 c = ?
 
