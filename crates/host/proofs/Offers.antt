@@ -6,17 +6,18 @@ use mathlib.Core.List.{List}
 use Prim.Native.Nat.{ℕ, _-_, _≤_, _<_}
 use borrow.Author.Tests.{lt-ltb, le-ltb, eq-eqb, ne-eqb}
 use lib.Dec.{ltb}
-use lib.ListN.{length}
+use lib.ListN.{length, take}
 use Rattle.octets.specs.Choice.{_⇒_⨾_}
 use Rattle.answers.specs.Answer.{answerNumber, isDone}
-use Rattle.outbox.specs.Outbox.{freeBytes}
-use Rattle.table.specs.Table.{header, sound}
-use Rattle.tape.specs.Entries.{wellFormed, allLegal, entryAnswer, stampOf}
+use Rattle.outbox.specs.Outbox.{freeBytes, ringWith, marksWith}
+use Rattle.table.specs.Table.{header, placeOf, sound}
+use Rattle.table.specs.Order.{isUsed}
+use Rattle.tape.specs.Entries.{wellFormed, allLegal, entryAnswer, stampOf, tokenOf}
 use Rattle.rules.specs.Plan.{refused}
 use Rattle.rules.specs.Sent.{message}
 use Rattle.outbox.specs.Outbox.{ringGood}
-use Rattle.host.specs.Types.{Answer, Done, Malformed, BadField, TooEarly, Full, Blocked, NotSound, WrongRing, Decision, Plan}
-use Rattle.host.specs.Step.{World, Outcome, comesTo, withinLimits, decide, noRecordFree, noReferenceLeft, noRoom, settle, offer, step, worldAfter, unchanged, Leaves}
+use Rattle.host.specs.Types.{Answer, Done, Malformed, BadField, TooEarly, Full, Blocked, NotSound, WrongRing, Decision, Plan, Marks}
+use Rattle.host.specs.Step.{World, Outcome, comesTo, withinLimits, decide, noRecordFree, noReferenceLeft, noRoom, settle, offer, step, storeIf, written, tableAfter, worldAfter, unchanged, Leaves}
 
 -- ---- from an outcome to what the call leaves
 
@@ -95,7 +96,7 @@ module _ (t s : List ℕ) where
     comes-early : stampOf s < header t .last → comesTo t s ≡ refused TooEarly
     comes-early h = passes .0 ∙ rw (lt-ltb _ _ h)
 
-    comes-decided : header t .last ≤ stampOf s → comesTo t s ≡ withinLimits t (decide t s)
+    pub comes-decided : header t .last ≤ stampOf s → comesTo t s ≡ withinLimits t (decide t s)
     comes-decided h = passes .0 ∙ rw (le-ltb _ _ h)
 
 -- ---- the offer
@@ -133,3 +134,54 @@ module _ (t : List ℕ) (d : Decision) where
     pub limits-fine : noRecordFree t (d .plan) ≡ false → noReferenceLeft t (d .plan) ≡ false → d ≡ withinLimits t d
     unfolding withinLimits
     limits-fine h r = simp (done, h, r)
+
+-- ---- the step
+
+module _ (w : World) (s : List ℕ) where
+  pub step-unsound : sound (w .table) ≡ false → step w s ≡ unchanged w NotSound
+  unfolding step
+  step-unsound h = simp h
+
+  pub step-wrong : sound (w .table) ≡ true → ringGood (length (w .ring)) (w .marks) ≡ false → step w s ≡ unchanged w WrongRing
+  unfolding step
+  step-wrong h r = simp (h, r)
+
+  pub step-offers : sound (w .table) ≡ true → ringGood (length (w .ring)) (w .marks) ≡ true → step w s ≡ offer w s
+  unfolding step
+  step-offers h r = simp (h, r)
+
+-- ---- what the writing leaves
+
+-- where no named order is stored, its place does not matter
+written-at : (t : List ℕ) (place other stamp : ℕ) (p : Plan) → (isUsed (p .changed) ≡ true → place ≡ other) → written t place stamp p ≡ written t other stamp p
+unfolding written storeIf
+written-at t place other stamp p h = by (isUsed (p .changed)) refl
+  where
+    by : (b : Bool) → isUsed (p .changed) ≡ b → written t place stamp p ≡ written t other stamp p
+    by true u = ap (λ (i : ℕ). written t i stamp p) (h u)
+    by false u = rw u
+
+module _ (w : World) (s : List ℕ) (d : Decision) (done : isDone (d .answer) ≡ true) (place stamp len : ℕ) (bytes : List ℕ)
+  (stamped : stamp ≡ stampOf s)
+  (long : len ≡ length (message stamp (d .plan)))
+  (spelled : take len bytes ≡ message stamp (d .plan))
+  (room : len ≤ length (w .ring) - w .marks .held)
+  (named : isUsed (d .plan .changed) ≡ true → place ≡ placeOf (w .table) (tokenOf s))
+  where
+
+  fits : length (message (stampOf s) (d .plan)) ≤ length (w .ring) - w .marks .held
+  fits = subst (λ (n : ℕ). n ≤ length (w .ring) - w .marks .held) (long ∙ ap (λ (n : ℕ). length (message n (d .plan))) stamped) room
+
+  pub leaves-done : {m : Marks} {t r : List ℕ} → m ≡ marksWith (w .marks) len → t ≡ written (w .table) place stamp (d .plan)
+      → r ≡ ringWith (w .ring) (w .marks) (take len bytes) → Leaves (settle w s d) Done m t r
+  unfolding worldAfter tableAfter
+  leaves-done {m} {t} {r} em et er =
+      let e = sym (settle-done w s d done fits) in
+      record {
+        answered = ap (λ (q : Outcome). q .answer) e;
+        marked = em ∙ ap (marksWith (w .marks)) (long ∙ ap (λ (n : ℕ). length (message n (d .plan))) stamped) ∙ ap (λ (q : Outcome). q .world .marks) e;
+        tabled = et ∙ written-at (w .table) place (placeOf (w .table) (tokenOf s)) stamp (d .plan) named
+            ∙ ap (λ (n : ℕ). written (w .table) (placeOf (w .table) (tokenOf s)) n (d .plan)) stamped
+            ∙ ap (λ (q : Outcome). q .world .table) e;
+        ringed = er ∙ ap (ringWith (w .ring) (w .marks)) (spelled ∙ ap (λ (n : ℕ). message n (d .plan)) stamped) ∙ ap (λ (q : Outcome). q .world .ring) e;
+      }

@@ -62,7 +62,7 @@ unfolding gone
 standing-good o (stillLive state shares) legal = record { token = legal; standing = inl (state, shares .below, shares .most) }
 standing-good o (nowDead state spent) legal = record { token = legal; standing = inr (inl (state, spent .equal, spent .most)) }
 
-none-unused : isUsed noOrder ≡ false
+pub none-unused : isUsed noOrder ≡ false
 unfolding isUsed noOrder orderOf numberOf numberFrom
 none-unused = refl
 
@@ -88,23 +88,23 @@ added-fit o n (replacing b) u = born-good o b (n .legal)
 -- ---- a plan written down
 
 module _ (t s : List ℕ) (ok : sound t ≡ true) (done : isDone (comesTo t s .answer) ≡ true) where
-  S : Sound t
+  pub S : Sound t
   S = of-sound t ok
 
-  P : Passed (decide t s) (wellFormed s) (allLegal s) (ltb (stampOf s) (header t .last)) (noRecordFree t (decide t s .plan))
+  pub P : Passed (decide t s) (wellFormed s) (allLegal s) (ltb (stampOf s) (header t .last)) (noRecordFree t (decide t s .plan))
       (noReferenceLeft t (decide t s .plan)) (comesTo t s)
   P = passed t s done
 
-  abbrev p : Plan
+  abbrev pub p : Plan
   p = decide t s .plan
 
-  abbrev named : Order
+  abbrev pub named : Order
   named = orderNamed t (tokenOf s)
 
-  K : Kept named (decide t s)
+  pub K : Kept named (decide t s)
   K = decide-keeps t s S (P .formed-is) (P .legal-is)
 
-  abbrev place : ℕ
+  abbrev pub place : ℕ
   place = placeOf t (tokenOf s)
 
   -- the order that the entry names has a legal token, where it is live
@@ -114,7 +114,7 @@ module _ (t s : List ℕ) (ok : sound t ≡ true) (done : isDone (comesTo t s .a
       let h = named-used t (tokenOf s) alive in
       ap (λ (q : Order). legalToken (q .token)) (named-is t (tokenOf s) h) ∙ S .records place h .token
 
-  changed-fit : Change named (p .notice) (p .changed) → isUsed (p .changed) ≡ true → Fit (p .changed) × HasRecord t place
+  pub changed-fit : Change named (p .notice) (p .changed) → isUsed (p .changed) ≡ true → Fit (p .changed) × HasRecord t place
   changed-fit (unchanged e) u = absurd (false≢true (sym none-unused ∙ ap isUsed (sym e) ∙ u))
   changed-fit (changed c) u =
       (
@@ -148,11 +148,11 @@ module _ (t s : List ℕ) (ok : sound t ≡ true) (done : isDone (comesTo t s .a
           }
       by false u = record { long = rw u; head = rw u; good = rw u ok }
 
-  abbrev h : Header
+  abbrev pub h : Header
   h = header t
 
   -- a record is free where one is needed
-  free-there : isUsed (p .added) ≡ true → h .used < recordsIn t
+  pub free-there : isUsed (p .added) ≡ true → h .used < recordsIn t
   unfolding noRecordFree
   free-there u = leb-false _ _ (ap (λ (b : Bool). b && leb (recordsIn t) (h .used)) (sym u) ∙ P .record-left)
 

@@ -1,3 +1,7 @@
+-- The part that is lent is as long as it is said. Assumes nothing.
+use mathlib.Core.Path.{_≡_, ap, _∙_}
+use lib.Seq.{length-take-le}
+use Rattle.outbox.specs.Outbox.{marksWith}
 use borrow.Author.Needs.{needs}
 use Rattle.host.proofs.step.append_front.Statement.{statement}
 use Rattle.host.proofs.step.append_front.Tie as tie
@@ -27,7 +31,10 @@ same-length c = search needs
 
 -- src/step.rt:139:1
 returns : tie.Need-returns
-returns c = ?
+returns c =
+    let start = c .before .before .before .before .before .before .before in
+    let e = length-take-le (start .args .len) (start .args .bytes .now) (start .pre .1 .1) in
+    (c .before .before .append .ensures .0 ∙ ap (marksWith (start .args .marks)) e, c .before .before .append .ensures .1)
 
 pub append-front-spec : {M : Type 1} → statement M
 append-front-spec =

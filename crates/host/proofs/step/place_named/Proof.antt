@@ -1,3 +1,10 @@
+-- The token's place is found; the system's entries have none to find. Assumes nothing.
+use mathlib.Core.Path.{_≡_, ap, _∙_}
+use native.Mathlib.Omega.{arith}
+use Rattle.table.specs.Table.{placeOf}
+use Rattle.table.proofs.Soundness.{of-sound, sound-fit}
+use Rattle.tape.proofs.Judged.{token-fits}
+use Rattle.host.proofs.Offers.{well-formed}
 use borrow.Author.Needs.{needs}
 use Rattle.host.proofs.step.place_named.Statement.{statement}
 use Rattle.host.proofs.step.place_named.Tie as tie
@@ -14,7 +21,7 @@ kind-of-requires c κs = search needs
 
 -- src/step.rt:95:9
 used-requires : tie.Need-used-requires
-used-requires c κs = ?
+used-requires c κs = let s = of-sound _ (c .before .before .before .before .pre .0) in omega (arith, s .size .long)
 
 -- src/step.rt:95:9
 returns : tie.Need-returns
@@ -22,15 +29,17 @@ returns c = search needs
 
 -- src/step.rt:97:17
 token-of-requires : tie.Need-token-of-requires
-token-of-requires c κs = ?
+token-of-requires c κs =
+    let start = c .before .before .before .before in
+    token-fits _ (well-formed (start .args .table .now) _ (start .pre .1)) (λ h. c .if1 .left (c .before .kind-of .ensures ∙ h))
 
 -- src/step.rt:97:5
 find-requires : tie.Need-find-requires
-find-requires c κs = ?
+find-requires c κs = sound-fit _ (of-sound _ (c .before .before .before .before .before .pre .0))
 
 -- src/step.rt:90:1
 returns-2 : tie.Need-returns-2
-returns-2 c = ?
+returns-2 c = λ _. c .find .ensures ∙ ap (placeOf (c .before .before .before .before .before .before .args .table .now)) (c .before .token-of .ensures)
 
 pub place-named-spec : {M : Type 1} → statement M
 place-named-spec =
