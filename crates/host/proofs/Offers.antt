@@ -6,7 +6,7 @@ use mathlib.Core.List.{List}
 use Prim.Native.Nat.{ℕ, _-_, _≤_, _<_}
 use borrow.Author.Tests.{lt-ltb, le-ltb, eq-eqb, ne-eqb}
 use lib.Dec.{ltb}
-use lib.ListN.{length, take}
+use lib.ListN.{length, take, length-take}
 use Rattle.octets.specs.Choice.{_⇒_⨾_}
 use Rattle.answers.specs.Answer.{answerNumber, isDone}
 use Rattle.outbox.specs.Outbox.{freeBytes, ringWith, marksWith}
@@ -29,6 +29,13 @@ leaves-unchanged w o a e =
       tabled = sym (ap (λ (q : Outcome). q .world .table) e);
       ringed = sym (ap (λ (q : Outcome). q .world .ring) e);
     }
+
+pub leaves-as : {o q : Outcome} {a : Answer} {m : Marks} {t r : List ℕ} → o ≡ q → Leaves o a m t r → Leaves q a m t r
+leaves-as {o} {q} {a} {m} {t} {r} e l = subst (λ (x : Outcome). Leaves x a m t r) e l
+
+-- a list that has a front of n has n
+pub take-fits : (n : ℕ) (l : List ℕ) → length (take n l) ≡ n → n ≤ length l
+take-fits n l e = omega (arith, sym (length-take n l) ∙ e)
 
 -- ---- what a number says of its answer
 

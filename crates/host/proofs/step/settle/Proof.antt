@@ -1,6 +1,6 @@
 -- Each return is the guard of `settle` that its tests led to. Assumes nothing.
 use Prim.Native.Nat.{ℕ, _-_, _<_}
-use mathlib.Core.Path.{_≡_, ap, _∙_}
+use mathlib.Core.Path.{_≡_, sym, ap, _∙_}
 use native.Mathlib.Omega.{arith}
 use lib.ListN.{length}
 use Rattle.outbox.specs.Outbox.{freeBytes}
@@ -8,7 +8,7 @@ use Rattle.outbox.proofs.Right.{right}
 use Rattle.tape.specs.Entries.{stampOf}
 use Rattle.rules.specs.Sent.{message}
 use Rattle.host.specs.Step.{world}
-use Rattle.host.proofs.Offers.{number-done, number-not-done, leaves-unchanged, settle-refused, settle-blocked, leaves-done}
+use Rattle.host.proofs.Offers.{number-done, number-not-done, leaves-unchanged, settle-refused, settle-blocked, leaves-done, take-fits}
 use borrow.Author.Needs.{needs}
 use Rattle.host.proofs.step.settle.Statement.{statement}
 use Rattle.host.proofs.step.settle.Tie as tie
@@ -69,8 +69,8 @@ slice-aggregate-append-front c = search needs
 append-front-requires : tie.Need-append-front-requires
 unfolding freeBytes
 append-front-requires c κs =
-    let most = c .before .before .before .before .before .before .before .before .message .ensures .most in
-    (c .before .before .before .before .before .before .before .before .before .before .before .before .before .before .before .before .pre .0 .0, (c .before .before .before .before .before .before .if2 .left, omega (arith, most)))
+    let sent = c .before .before .before .before .before .before .before .before .message in
+    (c .before .before .before .before .before .before .before .before .before .before .before .before .before .before .before .before .pre .0 .0, (c .before .before .before .before .before .before .if2 .left, take-fits _ _ (ap length (sent .ensures .bytes) ∙ sym (sent .ensures .len))))
 
 -- src/step.rt:101:1
 same-length : tie.Need-same-length

@@ -1,7 +1,7 @@
 -- Judged, and then offered. Assumes nothing.
 use mathlib.Core.Path.{_≡_, sym, _∙_, subst}
 use Rattle.host.specs.Step.{Outcome, world, Leaves}
-use Rattle.host.proofs.Offers.{leaves-unchanged, step-unsound, step-wrong, step-offers}
+use Rattle.host.proofs.Offers.{leaves-as, leaves-unchanged, step-unsound, step-wrong, step-offers}
 use borrow.Author.Needs.{needs}
 use Rattle.host.proofs.step.step.Statement.{statement}
 use Rattle.host.proofs.step.step.Tie as tie
@@ -39,7 +39,7 @@ returns c =
     let w = world (start .args .table .now) (start .args .ring .now) (start .args .marks) in
     let good = sym (c .before .before .before .before .before .before .before .before .before .before .sound .ensures) ∙ c .before .before .before .before .before .before .before .before .before .if1 .taken in
     let right = sym (c .before .before .before .before .before .before .before .before .ring-good .ensures) ∙ c .before .before .before .before .before .before .before .if2 .taken in
-    subst (λ (o : Outcome). Leaves o _ _ _ _) (sym (step-offers w _ good right)) (c .before .before .before .before .offer .ensures)
+    leaves-as (sym (step-offers w _ good right)) (c .before .before .before .before .offer .ensures)
 
 -- src/step.rt:46:9
 same-length-3 : tie.Need-same-length-3

@@ -9,7 +9,7 @@ use Rattle.tape.specs.Entries.{stampOf}
 use Rattle.tape.proofs.Judged.{stamp-fits}
 use Rattle.host.specs.Types.{Header, Decision}
 use Rattle.host.specs.Step.{Outcome, world, settle, Leaves, Writable}
-use Rattle.host.proofs.Offers.{leaves-unchanged, well-formed, comes-decided, offer-early, offer-decided}
+use Rattle.host.proofs.Offers.{leaves-as, leaves-unchanged, well-formed, comes-decided, offer-early, offer-decided}
 use Rattle.host.proofs.Sounds.{P}
 use Rattle.host.proofs.Writes.{writable}
 use borrow.Author.Needs.{needs}
@@ -94,7 +94,7 @@ returns-2 c =
     let b = ap (λ (q : Header). q .last) (c .before .before .before .before .before .before .before .before .before .before .before .before .before .before .header .ensures) in
     let h : header (w .table) .last ≤ stampOf s = omega (arith, c .before .before .before .before .before .before .before .before .before .before .before .before .before .stamp-of .ensures, b, c .before .before .before .before .before .before .before .before .before .before .before .if1 .left) in
     let e = ap (settle w s) (c .before .before .before .before .before .before .before .comes-to .ensures) ∙ sym (offer-decided w s (start .pre .1 .1) h) in
-    subst (λ (o : Outcome). Leaves o _ _ _ _) e (c .before .before .before .before .settle .ensures)
+    leaves-as e (c .before .before .before .before .settle .ensures)
 
 pub take-spec : {M : Type 1} → statement M
 take-spec =
