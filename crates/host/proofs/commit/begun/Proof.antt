@@ -2,14 +2,10 @@
 use borrow.Author.Tests.{eq-eqb, ne-eqb}
 use Rattle.host.proofs.commit.begun.Statement.{statement}
 use Rattle.host.proofs.commit.begun.Tie as tie
-use Rattle.host.proofs.commit.begun.Reads as reads
-use Rattle.host.proofs.commit.begun.Lts as lts
 
--- src/commit.rt:35:9
 returns : tie.Need-returns
 returns c = rw (eq-eqb _ _ (c .if1 .taken))
 
--- src/commit.rt:31:1
 returns-2 : tie.Need-returns-2
 returns-2 c = rw (ne-eqb _ _ (c .if1 .left))
 

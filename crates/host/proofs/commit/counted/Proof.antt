@@ -3,18 +3,13 @@ use native.Mathlib.Omega.{arith}
 use borrow.Author.Needs.{needs}
 use Rattle.host.proofs.commit.counted.Statement.{statement}
 use Rattle.host.proofs.commit.counted.Tie as tie
-use Rattle.host.proofs.commit.counted.Reads as reads
-use Rattle.host.proofs.commit.counted.Lts as lts
 
--- src/commit.rt:46:16
 add-result : tie.Need-add-result
 add-result c = search needs
 
--- src/commit.rt:46:9
 returns : tie.Need-returns
 returns c = rw (c .if1 .taken)
 
--- src/commit.rt:41:1
 returns-2 : tie.Need-returns-2
 returns-2 c = rw (c .if1 .left) (omega arith)
 

@@ -9,17 +9,10 @@ use Rattle.host.specs.Step.{withinLimits}
 use Rattle.host.proofs.Given.{sane-from}
 use Rattle.host.proofs.decide.comes_to.Statement.{statement}
 use Rattle.host.proofs.decide.comes_to.Tie as tie
-use Rattle.host.proofs.decide.comes_to.Reads as reads
-use Rattle.host.proofs.decide.comes_to.Lts as lts
-use Rattle.host.proofs.decide.decide.Reads as decide-reads
-use Rattle.host.proofs.decide.within_limits.Reads as within-limits-reads
-use Rattle.table.proofs.find.order_from.Reads as order-from-reads
 
--- src/decide.rt:50:9
 order-from-requires : tie.Need-order-from-requires
 order-from-requires c κs = sound-fit _ (of-sound _ (c .before .before .pre .0 .0))
 
--- src/decide.rt:51:29
 decide-requires : tie.Need-decide-requires
 unfolding orderNamed
 decide-requires c κs =
@@ -36,14 +29,12 @@ decide-requires c κs =
       ),
     )
 
--- src/decide.rt:51:5
 within-limits-requires : tie.Need-within-limits-requires
 within-limits-requires c κs =
     let start = c .before .before .before .before in
     let s = of-sound _ (start .pre .0 .0) in
     (omega (arith, s .size .long), start .pre .1 .0)
 
--- src/decide.rt:45:1
 returns : tie.Need-returns
 returns c =
     let t = c .before .before .before .before .before .args .table .now in

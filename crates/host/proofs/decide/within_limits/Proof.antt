@@ -6,39 +6,27 @@ use Rattle.host.proofs.Offers.{number-done, number-not-done, limits-ref
 use borrow.Author.Needs.{needs}
 use Rattle.host.proofs.decide.within_limits.Statement.{statement}
 use Rattle.host.proofs.decide.within_limits.Tie as tie
-use Rattle.host.proofs.decide.within_limits.Reads as reads
-use Rattle.host.proofs.decide.within_limits.Lts as lts
-use Rattle.answers.proofs.number.Reads as number-reads
-use Rattle.rules.proofs.plan.refused.Reads as refused-reads
-use Rattle.table.proofs.order.is_used.Reads as is-used-reads
 
--- src/decide.rt:123:8
 number-requires : tie.Need-number-requires
 number-requires c κs = search needs
 
--- src/decide.rt:124:9
 returns : tie.Need-returns
 returns c =
     let start = c .before .before .before in
     limits-refused (start .args .table .now) (start .args .d) (number-not-done _ (c .before .number .ensures) (c .if1 .taken))
 
--- src/decide.rt:128:20
 sub-records : tie.Need-sub-records
 sub-records c = search needs
 
--- src/decide.rt:129:8
 is-used-requires : tie.Need-is-used-requires
 is-used-requires c κs = search needs
 
--- src/decide.rt:129:37
 cast-if2 : tie.Need-cast-if2
 cast-if2 c = search needs
 
--- src/decide.rt:130:9
 refused-requires : tie.Need-refused-requires
 refused-requires c κs = search needs
 
--- src/decide.rt:130:9
 returns-2 : tie.Need-returns-2
 unfolding noRecordFree recordsIn
 returns-2 c =
@@ -47,11 +35,9 @@ returns-2 c =
     c .refused .ensures
     ∙ limits-record (start .args .table .now) (start .args .d) done (rw (← c .before .before .before .is-used .ensures, ← start .pre .1) (c .before .if2 .taken))
 
--- src/decide.rt:133:9
 refused-requires-2 : tie.Need-refused-requires-2
 refused-requires-2 c κs = search needs
 
--- src/decide.rt:133:9
 returns-3 : tie.Need-returns-3
 unfolding noRecordFree noReferenceLeft recordsIn
 returns-3 c =
@@ -60,7 +46,6 @@ returns-3 c =
     c .refused2 .ensures
     ∙ limits-reference (start .args .table .now) (start .args .d) done (rw (← c .before .before .before .before .before .before .is-used .ensures, ← start .pre .1) (c .before .before .before .before .if2 .left)) (rw (← start .pre .1) (c .before .if3 .taken))
 
--- src/decide.rt:118:1
 returns-4 : tie.Need-returns-4
 unfolding noRecordFree noReferenceLeft recordsIn
 returns-4 c =

@@ -9,21 +9,13 @@ use Rattle.host.proofs.Offers.{number-done, number-not-done, leaves-unc
 use borrow.Author.Needs.{needs}
 use Rattle.host.proofs.step.offer.Statement.{statement}
 use Rattle.host.proofs.step.offer.Tie as tie
-use Rattle.host.proofs.step.offer.Reads as reads
-use Rattle.host.proofs.step.offer.Lts as lts
-use Rattle.answers.proofs.number.Reads as number-reads
-use Rattle.host.proofs.step.take.Reads as take-reads
-use Rattle.tape.proofs.judging.judge.Reads as judge-reads
 
--- src/step.rt:62:9
 judge-requires : tie.Need-judge-requires
 judge-requires c κs = search needs
 
--- src/step.rt:63:8
 number-requires : tie.Need-number-requires
 number-requires c κs = search needs
 
--- src/step.rt:64:9
 returns : tie.Need-returns
 returns c =
     let start = c .before .before .before .before .before .before in
@@ -33,21 +25,17 @@ returns c =
     let not-done = subst (λ (a : Answer). isDone a ≡ false) e (number-not-done _ (c .before .number .ensures) (c .if1 .taken)) in
     leaves-unchanged w _ _ (offer-refused w s not-done ∙ ap (λ (a : Answer). unchanged w a) (sym e))
 
--- src/step.rt:69:5
 take-requires : tie.Need-take-requires
 take-requires c κs =
     let start = c .before .before .before .before .before .before .before .before in
     (start .pre .0, (start .pre .1, sym (c .before .before .before .before .judge .ensures) ∙ is-done _ (number-done _ (c .before .before .before .number .ensures) (c .before .before .if1 .left))))
 
--- src/step.rt:58:1
 same-length : tie.Need-same-length
 same-length c = search needs
 
--- src/step.rt:58:1
 same-length-2 : tie.Need-same-length-2
 same-length-2 c = search needs
 
--- src/step.rt:58:1
 returns-2 : tie.Need-returns-2
 returns-2 c = search needs
 

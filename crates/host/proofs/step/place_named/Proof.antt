@@ -8,36 +8,24 @@ use Rattle.host.proofs.Offers.{well-formed}
 use borrow.Author.Needs.{needs}
 use Rattle.host.proofs.step.place_named.Statement.{statement}
 use Rattle.host.proofs.step.place_named.Tie as tie
-use Rattle.host.proofs.step.place_named.Reads as reads
-use Rattle.host.proofs.step.place_named.Lts as lts
-use Rattle.table.proofs.find.find.Reads as find-reads
-use Rattle.table.proofs.places.used.Reads as used-reads
-use Rattle.tape.proofs.kinds.kind_of.Reads as kind-of-reads
-use Rattle.tape.proofs.reading.token_of.Reads as token-of-reads
 
--- src/step.rt:94:8
 kind-of-requires : tie.Need-kind-of-requires
 kind-of-requires c κs = search needs
 
--- src/step.rt:95:9
 used-requires : tie.Need-used-requires
 used-requires c κs = let s = of-sound _ (c .before .before .before .before .pre .0) in omega (arith, s .size .long)
 
--- src/step.rt:95:9
 returns : tie.Need-returns
 returns c = search needs
 
--- src/step.rt:97:17
 token-of-requires : tie.Need-token-of-requires
 token-of-requires c κs =
     let start = c .before .before .before .before in
     token-fits _ (well-formed (start .args .table .now) _ (start .pre .1)) (λ h. c .if1 .left (c .before .kind-of .ensures ∙ h))
 
--- src/step.rt:97:5
 find-requires : tie.Need-find-requires
 find-requires c κs = sound-fit _ (of-sound _ (c .before .before .before .before .before .pre .0))
 
--- src/step.rt:90:1
 returns-2 : tie.Need-returns-2
 returns-2 c = λ _. c .find .ensures ∙ ap (placeOf (c .before .before .before .before .before .before .args .table .now)) (c .before .token-of .ensures)
 

@@ -12,39 +12,26 @@ use Rattle.host.proofs.Offers.{number-done, number-not-done, leaves-unc
 use borrow.Author.Needs.{needs}
 use Rattle.host.proofs.step.settle.Statement.{statement}
 use Rattle.host.proofs.step.settle.Tie as tie
-use Rattle.host.proofs.step.settle.Reads as reads
-use Rattle.host.proofs.step.settle.Lts as lts
-use Rattle.answers.proofs.number.Reads as number-reads
-use Rattle.host.proofs.commit.commit.Reads as commit-reads
-use Rattle.host.proofs.step.append_front.Reads as append-front-reads
-use Rattle.rules.proofs.sent.message.Reads as message-reads
-use Rattle.tape.proofs.reading.stamp_of.Reads as stamp-of-reads
 
--- src/step.rt:115:8
 number-requires : tie.Need-number-requires
 number-requires c κs = search needs
 
--- src/step.rt:116:9
 returns : tie.Need-returns
 returns c =
     let start = c .before .before .before .before .before in
     let w = world (start .args .table .now) (start .args .ring .now) (start .args .marks) in
     leaves-unchanged w _ _ (settle-refused w _ _ (number-not-done _ (c .before .number .ensures) (c .if1 .taken)))
 
--- src/step.rt:119:9
 stamp-of-requires : tie.Need-stamp-of-requires
 stamp-of-requires c κs = search needs
 
--- src/step.rt:120:9
 message-requires : tie.Need-message-requires
 message-requires c κs =
     c .before .before .before .before .before .before .before .pre .1 (number-done _ (c .before .before .before .number .ensures) (c .before .before .if1 .left)) .told
 
--- src/step.rt:124:8
 sub-if2 : tie.Need-sub-if2
 sub-if2 c = right _ _ (c .before .before .before .before .before .before .before .before .before .pre .0 .0) .count
 
--- src/step.rt:125:9
 returns-2 : tie.Need-returns-2
 returns-2 c =
     let start = c .before .before .before .before .before .before .before .before .before .before in
@@ -55,32 +42,26 @@ returns-2 c =
     let h : length (w .ring) - w .marks .held < length (message (stampOf (start .args .entry .now)) p) = omega (arith, e, c .if2 .taken) in
     leaves-unchanged w _ _ (settle-blocked w _ _ done h)
 
--- src/step.rt:130:5
 commit-requires : tie.Need-commit-requires
 commit-requires c κs =
     let w = c .before .before .before .before .before .before .before .before .before .before .before .pre .1 (number-done _ (c .before .before .before .before .before .before .before .number .ensures) (c .before .before .before .before .before .before .if1 .left)) in
     (((w .head, w .long), (w .used, w .reference)), (w .changed, w .added))
 
--- src/step.rt:131:43
 slice-aggregate-append-front : tie.Need-slice-aggregate-append-front
 slice-aggregate-append-front c = search needs
 
--- src/step.rt:131:9
 append-front-requires : tie.Need-append-front-requires
 unfolding freeBytes
 append-front-requires c κs =
     let sent = c .before .before .before .before .before .before .before .before .message in
     (c .before .before .before .before .before .before .before .before .before .before .before .before .before .before .before .before .pre .0 .0, (c .before .before .before .before .before .before .if2 .left, take-fits _ _ (ap length (sent .ensures .bytes) ∙ sym (sent .ensures .len))))
 
--- src/step.rt:101:1
 same-length : tie.Need-same-length
 same-length c = search needs
 
--- src/step.rt:101:1
 same-length-2 : tie.Need-same-length-2
 same-length-2 c = search needs
 
--- src/step.rt:101:1
 returns-3 : tie.Need-returns-3
 returns-3 c =
     let start = c .before .before .before .before .before .before .before .before .before .before .before .before .before .before .before .before .before .before .before in

@@ -15,30 +15,19 @@ use Rattle.host.proofs.Writes.{writable}
 use borrow.Author.Needs.{needs}
 use Rattle.host.proofs.step.take.Statement.{statement}
 use Rattle.host.proofs.step.take.Tie as tie
-use Rattle.host.proofs.step.take.Reads as reads
-use Rattle.host.proofs.step.take.Lts as lts
-use Rattle.host.proofs.decide.comes_to.Reads as comes-to-reads
-use Rattle.host.proofs.step.place_named.Reads as place-named-reads
-use Rattle.host.proofs.step.settle.Reads as settle-reads
-use Rattle.table.proofs.places.header.Reads as header-reads
-use Rattle.tape.proofs.reading.stamp_of.Reads as stamp-of-reads
 
--- src/step.rt:77:9
 header-requires : tie.Need-header-requires
 header-requires c κs = let s = of-sound _ (c .before .before .before .before .pre .0) in omega (arith, s .size .long)
 
--- src/step.rt:78:8
 stamp-of-requires : tie.Need-stamp-of-requires
 stamp-of-requires c κs =
     let start = c .before .before .before .before .before in
     let h = stamp-fits _ (well-formed (start .args .table .now) _ (start .pre .1 .1)) in
     omega (arith, h)
 
--- src/step.rt:79:9
 same-length : tie.Need-same-length
 same-length c = search needs
 
--- src/step.rt:79:9
 returns : tie.Need-returns
 returns c =
     let start = c .before .before .before .before .before .before .before .before in
@@ -48,17 +37,14 @@ returns c =
     let h : stampOf (start .args .entry .now) < header (w .table) .last = omega (arith, a, b, c .if1 .taken) in
     leaves-unchanged w _ _ (offer-early w _ (start .pre .1 .1) h)
 
--- src/step.rt:84:9
 place-named-requires : tie.Need-place-named-requires
 place-named-requires c κs = search needs
 
--- src/step.rt:85:9
 comes-to-requires : tie.Need-comes-to-requires
 comes-to-requires c κs =
     let start = c .before .before .before .before .before .before .before .before .before .before .before in
     ((start .pre .0, well-formed (start .args .table .now) _ (start .pre .1 .1)), (c .before .before .before .before .before .before .header .ensures, c .before .place-named .ensures))
 
--- src/step.rt:86:5
 settle-requires : tie.Need-settle-requires
 settle-requires c κs =
     let start = c .before .before .before .before .before .before .before .before .before .before .before .before .before .before in
@@ -77,15 +63,12 @@ settle-requires c κs =
       (writable t s (start .pre .0) d _ _ (c .before .before .before .before .before .before .before .before .before .header .ensures) (c .before .before .before .before .place-named .ensures)),
     )
 
--- src/step.rt:73:1
 same-length-2 : tie.Need-same-length-2
 same-length-2 c = search needs
 
--- src/step.rt:73:1
 same-length-3 : tie.Need-same-length-3
 same-length-3 c = search needs
 
--- src/step.rt:73:1
 returns-2 : tie.Need-returns-2
 returns-2 c =
     let start = c .before .before .before .before .before .before .before .before .before .before .before .before .before .before .before .before .before .before .before in
