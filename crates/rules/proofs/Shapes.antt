@@ -9,7 +9,7 @@ use Rattle.wire.specs.Limits.{tokenSize}
 use Rattle.table.specs.Limits.{mostShares, dayClosed}
 use Rattle.table.specs.Counts.{gone}
 use Rattle.table.specs.Order.{isLive, withShares, withFlags, withSide, killed}
-use Rattle.rules.specs.Types.{Answer, Counts, Order, Notice, Details, Replaced}
+use Rattle.rules.specs.Types.{Answer, Counts, Order, Notice, Replaced}
 use Rattle.rules.specs.Plan.{noPlan, refused, changing, renumbering, accepting, replacing as replacingBy, rejecting, beginning}
 use Rattle.rules.specs.Sane.{Open, Shaped, stillLive, toldExecuted, Changed, unchanged, changed, Born, nothing, rejected, entered, replacing, Keeps}
 use Rattle.rules.proofs.Standing.{live-state, counted}

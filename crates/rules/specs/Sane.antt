@@ -8,7 +8,6 @@ use Rattle.octets.specs.Bytes.{zeros}
 use Rattle.wire.specs.Letters.{live, dead}
 use Rattle.wire.specs.Limits.{tokenSize}
 use Rattle.table.specs.Limits.{mostShares, highestThreshold, firmSize, mostFirms, dayClosed}
-use Rattle.table.specs.Counts.{newCounts}
 use Rattle.table.specs.Order.{isLive, noOrder, rejectedOrder}
 use Rattle.rules.specs.Types.{Counts, Order, Header, EnterOrder, Decision, Notice, Silent, SystemEvent, Accepted, Replaced, Canceled, AiqCancelled, Executed, Rejected, CancelPending, CancelReject, PriorityUpdate, Modified}
 
