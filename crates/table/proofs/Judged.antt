@@ -4,7 +4,6 @@ use mathlib.Core.Bool.{Bool, true, false, _&&_, _||_, and-true, and-assoc, or-fa
 use mathlib.Core.List.{List, [], _∷_}
 use mathlib.Core.Option.{Option, none, some}
 use Prim.Native.Nat.{ℕ, _+_, _≤_}
-use native.Mathlib.Omega.{arith}
 use borrow.Author.Tests.{eqb-true, ne-eqb}
 use lib.ListN.{length, take, drop, getD}
 use lib.Dec.{leb, ltb, eqb, leb·zero}
@@ -13,7 +12,7 @@ use Rattle.octets.specs.Bytes.{part, numberOf, allAre}
 use Rattle.octets.proofs.Laws.{length-part}
 use Rattle.octets.proofs.Below.{all-first, all-part}
 use Rattle.wire.specs.Text.{tokenByte}
-use Rattle.wire.specs.Layout.{Field, badTokenByte, nonZeroByte, badPlace, unless, orElse, isNone, firstBadPlace, noBadPlace}
+use Rattle.wire.specs.Layout.{badTokenByte, nonZeroByte, badPlace, unless, orElse, isNone, firstBadPlace, noBadPlace}
 use Rattle.table.specs.Limits.{headerSize, dayClosed, fewestFirms, mostFirms, firstReference, endOfReferences, lowestThreshold, highestThreshold, mostShares}
 use Rattle.wire.specs.Letters.{live, dead, rejectedToken}
 use Rattle.wire.specs.Limits.{stampEnd, tokenSize}

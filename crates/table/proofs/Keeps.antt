@@ -2,24 +2,24 @@
 use mathlib.Core.Path.{_≡_, refl, sym, ap, _∙_, subst}
 use mathlib.Core.Bool.{true}
 use mathlib.Core.Logic.{_⊎_, inl, inr, _≢_}
-use mathlib.Core.List.{List, [], _∷_, _++_}
-use Prim.Native.Nat.{ℕ, _+_, _-_, _*_, _/_, _≤_, _<_}
+use mathlib.Core.List.{List}
+use Prim.Native.Nat.{ℕ, _+_, _-_, _/_, _≤_, _<_}
 use native.Mathlib.Decide.{ℕ-discrete}
 use native.Mathlib.Omega.{arith}
 use lib.ListN.{length, take, drop}
 use lib.Seq.{drop-at}
-use Rattle.octets.specs.Bytes.{part, allAre, digits, numberOf, numberFrom}
+use Rattle.octets.specs.Bytes.{allAre, digits, numberOf, numberFrom}
 use Rattle.wire.specs.Limits.{tokenSize}
 use Rattle.table.specs.Limits.{headerSize, recordSize}
 use Rattle.table.specs.Counts.{newCounts}
-use Rattle.table.specs.Order.{Order, orderOf, orderBytes, noOrder, rejectedOrder, stateSound, recordSound}
-use Rattle.table.specs.Header.{Header, headerOf, headerBytes}
+use Rattle.table.specs.Order.{Order, orderOf, orderBytes, noOrder, rejectedOrder, recordSound}
+use Rattle.table.specs.Header.{Header, headerBytes}
 use Rattle.table.specs.Whole.{WholeOrder, WholeHeader}
-use Rattle.table.specs.Table.{recordsIn, HasRecord, recordBytes, header, HasUsed, sound, storeOrder, storeHeader}
+use Rattle.table.specs.Table.{recordsIn, HasRecord, recordBytes, header, sound, storeOrder, storeHeader}
 use Rattle.table.proofs.Judged.{legalToken}
 use Rattle.table.proofs.Spelled.{order-again}
 use Rattle.table.proofs.Stored.{order-bytes, other-records, order-length, head-stays, header-stays, header-length, header-bytes, header-read-back, records-stay}
-use Rattle.table.proofs.Soundness.{Sized, HeaderGood, Gaps, Live, Dead, Rejected, to-record, RecordGood, of-record, Sound, of-sound, to-sound}
+use Rattle.table.proofs.Soundness.{Sized, HeaderGood, Gaps, Live, Dead, Rejected, to-record, of-record, of-sound, to-sound}
 
 -- ---- orders
 

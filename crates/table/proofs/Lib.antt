@@ -9,3 +9,4 @@ pub mod Soundness
 pub mod Keeps
 pub mod Freshness
 pub mod Finding
+pub mod Unique

@@ -1,6 +1,6 @@
 -- Values and bytes, there and back: an order and a header that are spelled and read again are the same, and so are their bytes that are read and
 -- spelled again. All four are citations of the laws of layouts. Assumes nothing.
-use mathlib.Core.Path.{_≡_, refl, ap, _∙_}
+use mathlib.Core.Path.{_≡_, refl, ap}
 use mathlib.Core.Bool.{true, false≢true}
 use mathlib.Core.List.{List, [], _∷_}
 use mathlib.Core.Option.{Option, none, some}
@@ -8,7 +8,7 @@ use Prim.Native.Nat.{ℕ}
 use native.Mathlib.Omega.{arith}
 use lib.ListN.{length}
 use Rattle.wire.specs.Legal.{Bytes}
-use Rattle.wire.specs.Layout.{Field, free, Values, Fits, atOnce, readFields, spellFields, isNone, badPlace, firstBadPlace, noBadPlace, unbroken, gapsAreZero}
+use Rattle.wire.specs.Layout.{Field, free, Values, Fits, atOnce, isNone, badPlace, firstBadPlace, noBadPlace, unbroken, gapsAreZero}
 use Rattle.wire.proofs.Layouts.{sized-all, length-fields, fields-again, spelled-again}
 use Rattle.table.specs.Limits.{headerSize, recordSize}
 use Rattle.table.specs.Order.{Order, recordLayout, orderFields, orderOf, orderBytes}

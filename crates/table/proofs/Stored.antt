@@ -1,14 +1,13 @@
 -- What a store does to a table: the value is read back, every other record and the header stay, and so does the length. Storing what was read
 -- changes nothing. Assumes nothing.
-use mathlib.Core.Path.{_≡_, refl, sym, ap, _∙_}
+use mathlib.Core.Path.{_≡_, sym, ap, _∙_}
 use mathlib.Core.Bool.{true}
 use mathlib.Core.Logic.{_≢_}
-use mathlib.Core.List.{List, _++_}
-use Prim.Native.Nat.{ℕ, _+_, _*_, _≤_, _<_}
+use mathlib.Core.List.{List}
+use Prim.Native.Nat.{ℕ, _+_, _*_, _≤_}
 use native.Mathlib.Decide.{decLt}
 use native.Mathlib.Omega.{arith}
-use lib.ListN.{length, take, drop, take-append-drop}
-use lib.Seq.{drop-drop, length-take-le}
+use lib.ListN.{length, take}
 use Rattle.octets.specs.Bytes.{part, put}
 use Rattle.octets.proofs.Laws.{length-part, length-put, part-put-same, part-put-before, part-put-after, part-bytes, put-part}
 use Rattle.wire.specs.Legal.{Bytes}
@@ -17,7 +16,7 @@ use Rattle.table.specs.Limits.{headerSize, recordSize}
 use Rattle.table.specs.Order.{Order, orderOf, orderBytes}
 use Rattle.table.specs.Header.{Header, headerLayout, headerOf, headerBytes}
 use Rattle.table.specs.Whole.{WholeOrder, WholeHeader}
-use Rattle.table.specs.Table.{recordPlace, HasRecord, recordBytes, recordsIn, header, orderAt, storeOrder, storeHeader}
+use Rattle.table.specs.Table.{recordPlace, HasRecord, recordBytes, header, orderAt, storeOrder, storeHeader}
 use Rattle.table.proofs.Spelled.{length-order, order-again, length-header, header-again, record-again, header-bytes-again}
 
 -- ---- an order

@@ -1,3 +1,4 @@
+-- The numbers are judged first, and say that the count is one that eight places hold.
 use mathlib.Core.Path.{sym, ap, _∙_}
 use mathlib.Core.Bool.{Bool, _&&_}
 use Rattle.table.specs.Header.{firmsShaped}
