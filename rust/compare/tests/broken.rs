@@ -211,13 +211,14 @@ impl Host for Broken {
     }
 }
 
-/// Where the first used record of this token begins.
+/// Where the first used record of this token begins; the table may be damaged.
 fn row(table: &[u8], token: &[u8]) -> Option<usize> {
-    let used = number(&table[4..8]) as usize;
-    let places = (0..used).map(|place| FIRST_RECORD + RECORD_LEN * place);
-    places
-        .into_iter()
-        .find(|&at| table.get(at + 1..at + 15) == Some(token))
+    let used = number(table.get(4..8)?) as usize;
+    let records = table.get(FIRST_RECORD..)?.chunks_exact(RECORD_LEN);
+    let place = records
+        .take(used)
+        .position(|record| record[1..15] == *token)?;
+    Some(FIRST_RECORD + RECORD_LEN * place)
 }
 
 fn number(bytes: &[u8]) -> u32 {
