@@ -1,5 +1,5 @@
 -- Every decision of these rules keeps what it should, guard by guard. Assumes nothing.
-use Prim.Native.Nat.{ℕ, _+_}
+use Prim.Native.Nat.{ℕ}
 use mathlib.Core.Path.{_≡_, refl}
 use mathlib.Core.Bool.{true, not, _&&_, _||_}
 use mathlib.Core.List.{List}
@@ -63,6 +63,7 @@ prioritised : (h : Header) (o : Order) (e : Priority) → isLive o ≡ true → 
 unfolding prioritisedOrder withDetails
 prioritised h o e alive shares shaped =
     record {
+      alive = alive;
       standing = stillLive (live-state o alive) shares;
       shaped = record { token = shaped .token; stock = shaped .stock; firm = shaped .firm; previous = shaped .previous };
       token = refl;

@@ -32,7 +32,7 @@ pub fn execution(h: Header, o: Order, e: Execution) -> Decision
     requires { ⌜ Sane o ⌝ }
     ensures { λ r. ⌜ r ≡ executionRule h o e ⌝ }
 {
-    if !is_live(o) {
+    if !is_live(o) { // nothing is open of a dead order
         return refused(Answer::NotLive);
     }
     if !is_open_day(h) {

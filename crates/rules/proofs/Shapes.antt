@@ -9,7 +9,7 @@ use Rattle.wire.specs.Limits.{tokenSize}
 use Rattle.table.specs.Limits.{mostShares, dayClosed}
 use Rattle.table.specs.Counts.{gone}
 use Rattle.table.specs.Order.{isLive, withShares, withFlags, withSide, killed}
-use Rattle.rules.specs.Types.{Answer, Counts, Order, Notice, Details, Replaced}
+use Rattle.rules.specs.Types.{Answer, Counts, Order, Notice, Replaced}
 use Rattle.rules.specs.Plan.{noPlan, refused, changing, renumbering, accepting, replacing as replacingBy, rejecting, beginning}
 use Rattle.rules.specs.Sane.{Open, Shaped, stillLive, toldExecuted, Changed, unchanged, changed, Born, nothing, rejected, entered, replacing, Keeps}
 use Rattle.rules.proofs.Standing.{live-state, counted}
@@ -54,6 +54,7 @@ module _ (o : Order) (alive : isLive o ≡ true) (shares : Open (o .shares)) (sh
   unfolding withFlags
   uncounted flags silent =
       record {
+        alive = alive;
         standing = stillLive (live-state o alive) shares;
         shaped = record { token = shaped .token; stock = shaped .stock; firm = shaped .firm; previous = shaped .previous };
         token = refl;
@@ -66,6 +67,7 @@ module _ (o : Order) (alive : isLive o ≡ true) (shares : Open (o .shares)) (sh
   unfolding withShares withFlags withSide
   recounted side flags s notice within most told =
       record {
+        alive = alive;
         standing = counted (withFlags (withSide o side) flags) s (live-state o alive) within most;
         shaped = record { token = shaped .token; stock = shaped .stock; firm = shaped .firm; previous = shaped .previous };
         token = refl;

@@ -121,7 +121,7 @@ impl<S: Sink> Driver<S> {
         match self.chance.below(100) {
             0..=3 => self.spoil_table(tapes),
             4..=5 => self.spoil_ring(tapes),
-            6 => self.refused_fresh(),
+            6 => self.fresh_aside(),
             7..=31 => self.echo(),
             _ => Ok(()),
         }
@@ -169,8 +169,8 @@ impl<S: Sink> Driver<S> {
         }))
     }
 
-    /// A fresh call that the present table survives, since nothing refused changes anything.
-    fn refused_fresh(&mut self) -> io::Result<()> {
+    /// A fresh call in the midst of a day; the table is put back if the settings were good.
+    fn fresh_aside(&mut self) -> io::Result<()> {
         let kept = self.desk.table.clone();
         if self.fresh()? == DONE {
             self.give(&Command::Table(kept))?;
@@ -282,10 +282,20 @@ impl<S: Sink> Driver<S> {
             self.fresh()?;
         }
         for _ in 0..=self.chance.below(3) {
-            let entry = self.next_entry(tapes);
-            self.offer(entry)?;
+            self.offer_spoilt(tapes)?;
         }
         self.give(&Command::Table(kept))?;
+        Ok(())
+    }
+
+    /// Offers an entry to what is spoilt already, and often spoils the entry too: of several faults
+    /// only the first in the paper's order may be told.
+    fn offer_spoilt(&mut self, tapes: &mut Tapes) -> io::Result<()> {
+        let mut entry = self.next_entry(tapes);
+        if self.chance.one_in(4) {
+            entry = damage::misread(&mut self.chance, entry);
+        }
+        self.offer(entry)?;
         Ok(())
     }
 
@@ -304,8 +314,11 @@ impl<S: Sink> Driver<S> {
         let ring = self.junk(len);
         let marks = Marks { at, held };
         self.give(&Command::Ring { ring, marks })?;
-        let entry = self.next_entry(tapes);
-        self.offer(entry)?;
+        if self.chance.one_in(4) {
+            self.spoil_table(tapes)?;
+        } else {
+            self.offer_spoilt(tapes)?;
+        }
         self.give(&Command::Read)?;
         let k = self.part_of_held();
         let k = self.chance.pick(&[0, 1, k]);

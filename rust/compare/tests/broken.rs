@@ -29,6 +29,8 @@ enum Fault {
     ClearsTheNextRecord,
     TouchesOneRingByte,
     MovesMarksWhenRefusing,
+    AsksForMarksBeforeTheTable,
+    ReadsTheEntryBeforeTheMarks,
     ReleasesOneTooMany,
     ForgetsToWrapThePlace,
     ReadsAcrossTheEnd,
@@ -38,7 +40,7 @@ enum Fault {
     WritesBeforeAskingForRoom,
 }
 
-const FAULTS: [Fault; 18] = [
+const FAULTS: [Fault; 20] = [
     Fault::DropsTheOldest,
     Fault::WritesHalfOfOne,
     Fault::StoresTheTokenFirst,
@@ -50,6 +52,8 @@ const FAULTS: [Fault; 18] = [
     Fault::ClearsTheNextRecord,
     Fault::TouchesOneRingByte,
     Fault::MovesMarksWhenRefusing,
+    Fault::AsksForMarksBeforeTheTable,
+    Fault::ReadsTheEntryBeforeTheMarks,
     Fault::ReleasesOneTooMany,
     Fault::ForgetsToWrapThePlace,
     Fault::ReadsAcrossTheEnd,
@@ -141,6 +145,8 @@ impl Broken {
             (Some(Fault::MovesTheStampWhenIgnoring), 1) => {
                 table[8..16].copy_from_slice(&entry[1..9]);
             }
+            (Some(Fault::AsksForMarksBeforeTheTable), 10) if marks.at >= ring.len() => return 11,
+            (Some(Fault::ReadsTheEntryBeforeTheMarks), 11) if entry.len() < 10 => return 2,
             (Some(Fault::MovesMarksWhenRefusing), 8) => marks.at = (marks.at + 1) % ring.len(),
             _ => {}
         }
@@ -205,13 +211,14 @@ impl Host for Broken {
     }
 }
 
-/// Where the first used record of this token begins.
+/// Where the first used record of this token begins; the table may be damaged.
 fn row(table: &[u8], token: &[u8]) -> Option<usize> {
-    let used = number(&table[4..8]) as usize;
-    let places = (0..used).map(|place| FIRST_RECORD + RECORD_LEN * place);
-    places
-        .into_iter()
-        .find(|&at| table.get(at + 1..at + 15) == Some(token))
+    let used = number(table.get(4..8)?) as usize;
+    let records = table.get(FIRST_RECORD..)?.chunks_exact(RECORD_LEN);
+    let place = records
+        .take(used)
+        .position(|record| record[1..15] == *token)?;
+    Some(FIRST_RECORD + RECORD_LEN * place)
 }
 
 fn number(bytes: &[u8]) -> u32 {

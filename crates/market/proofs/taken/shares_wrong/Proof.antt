@@ -1,5 +1,4 @@
 -- The gathered tests are the definition's. Assumes nothing.
-use native.Mathlib.Omega.{arith}
 use Rattle.market.specs.Taken.{sharesWrong}
 use borrow.Author.Needs.{needs}
 use Rattle.market.proofs.taken.shares_wrong.Statement.{statement}
