@@ -3,8 +3,8 @@ use Prim.Native.Nat.{ℕ, zero, suc, _/_, _≤_}
 use Prim.Native.Char.{code}
 use mathlib.Core.Path.{_≡_}
 use mathlib.Core.List.{List, [], _∷_, _++_}
-use lib.ListN.{length, take}
-use lib.Dec.{ltb}
+use lib.ListN.{length, take, getD}
+use lib.Dec.{ltb, eqb}
 use Rattle.io.specs.Digits.{digits}
 use Rattle.octets.specs.Choice.{pick, text}
 use Rattle.octets.specs.Bytes.{joined}
@@ -32,6 +32,10 @@ spaced word = space ∷ word ++ (space ∷ [])
 unfoldable pub line : ℕ → ℕ → ℕ → ℕ → List ℕ
 line number kind answer sent =
     joined (decimal number ∷ spaced (digits 16 2 kind) ∷ decimal answer ∷ (space ∷ sent ∷ newline ∷ []) ∷ [])
+
+-- 'type sent or a dash', of the bytes that were sent
+unfoldable pub typeShown : List ℕ → ℕ
+typeShown sent = pick (eqb (length sent) 0) (code "-") (getD sent 0 0)
 
 -- 'entries answered 0, bytes sent'
 unfoldable pub lastLine : ℕ → ℕ → List ℕ

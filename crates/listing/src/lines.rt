@@ -1,12 +1,10 @@
 // The lines of a listing, each at the front of 64 bytes.
 use crate::numbers::put_decimal;
 use crate::numbers::sixteenth;
-ghost use Rattle.listing.specs.Lines.{line, lastLine, Shows};
+ghost use mathlib.Core.Path.{_≡_};
+ghost use Rattle.listing.specs.Lines.{line, typeShown, lastLine, Shows};
 
 pub const FIRST_LINE: [u8; 23] = *b"entry kind answer sent\n";
-
-// What stands in the place of a type where nothing was sent.
-pub const NOTHING: u8 = b'-';
 
 // A line is the first `len` of the bytes.
 pub struct Shown {
@@ -26,6 +24,16 @@ pub fn line(number: u64, kind: u8, answer: u8, sent: u8) -> Shown
     let b = put_decimal(&mut bytes, a + 4, answer as u64);
     octets::put_bytes(&mut bytes, b, &[b' ', sent, b'\n']);
     Shown { bytes, len: b + 3 }
+}
+
+// The type of what was sent, which is its first byte, or a dash.
+pub fn type_shown(sent: &[u8]) -> u8
+    ensures { λ r. ⌜ r ≡ typeShown (now (sent .entry)) ⌝ }
+{
+    if sent.len() == 0 {
+        return b'-';
+    }
+    sent[0]
 }
 
 // Entries answered 0, bytes sent.
