@@ -1,7 +1,7 @@
 -- A tape that comes in pieces: what is held of it, and the entry at the front of that.
 use Prim.Native.Nat.{ℕ, _+_, _-_}
 use mathlib.Core.Path.{_≡_}
-use mathlib.Core.Bool.{Bool, true, false, _&&_}
+use mathlib.Core.Bool.{_&&_}
 use mathlib.Core.List.{List, []}
 use lib.ListN.{length, take}
 use lib.Dec.{leb}
@@ -25,16 +25,6 @@ frontOf End s = s
 -- the entry at the front; where there is no whole one, all of the bytes
 unfoldable pub nextEntry : List ℕ → List ℕ
 nextEntry s = frontOf (cutAt s 0) s
-
-abbrev pub isOpen : Cut → Bool
-isOpen (Whole end) = false
-isOpen Short = true
-isOpen Unknown = false
-isOpen End = true
-
--- more bytes behind these could make an entry of them
-unfoldable pub wantsMore : List ℕ → Bool
-wantsMore s = isOpen (cutAt s 0)
 
 -- the marks once n of the held bytes, or all where there are fewer, were handed out
 unfoldable pub past : Held → ℕ → Held

@@ -1,6 +1,6 @@
 // The held bytes: where they stand, the entry at their front, and handing it out.
 ghost use mathlib.Core.Path.{_≡_};
-ghost use Rattle.feed.specs.Feed.{unread, nextEntry, wantsMore, past};
+ghost use Rattle.feed.specs.Feed.{unread, nextEntry, past};
 use tape::cutting::Cut;
 use tape::cutting::cut_at;
 
@@ -33,18 +33,6 @@ pub fn next_entry(bytes: &[u8]) -> &[u8]
         Cut::Short => bytes,
         Cut::Unknown => bytes,
         Cut::End => bytes,
-    }
-}
-
-// Whether more of the tape could make an entry of what is held.
-pub fn wants_more(bytes: &[u8]) -> bool
-    ensures { λ r. ⌜ r ≡ wantsMore (now (bytes .entry)) ⌝ }
-{
-    match cut_at(bytes, 0) {
-        Cut::Whole(_) => false,
-        Cut::Short => true,
-        Cut::Unknown => false,
-        Cut::End => true,
     }
 }
 

@@ -6,14 +6,18 @@ ghost use Rattle.octets.specs.Bytes.{part};
 ghost use Rattle.feed.specs.Feed.{unread, Begins};
 use crate::held::Held;
 use crate::held::unread;
-use crate::held::wants_more;
 use libc::STDIN_FILENO;
 
-// What was held is held again, and as much of the tape behind it as makes an entry, or all that is left of the tape.
+// No entry and no message is longer.
+const LONGEST: usize = 80;
+
+// What was held is held again, and more of the tape behind it where an entry might not be whole yet. Where it is not whole afterwards, the
+// tape ends in it.
 pub fn ready(buffer: &mut [u8], held: Held) -> Held
     ensures { λ r. ⌜ Begins (unread (now (buffer .entry)) held) (unread (now (buffer .exit)) r) ⌝ }
 {
-    if wants_more(unread(buffer, held)) {
+    let bytes = unread(buffer, held);
+    if bytes.len() < LONGEST {
         let n = keep(buffer, held);
         return refill(buffer, n);
     }

@@ -87,7 +87,7 @@ fn play(table: &mut [u8], ring: &mut [u8], tape: &mut [u8]) -> Run {
     let mut turns = u64::MAX;
     let mut run = begun();
     let mut going = true;
-    while (0 < turns) & going {
+    while 0 < turns && going {
         run = turn(table, ring, tape, run);
         going = run.going;
         turns -= 1;

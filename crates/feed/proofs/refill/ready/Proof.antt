@@ -12,9 +12,6 @@ use Rattle.feed.proofs.refill.ready.Tie as tie
 unread-requires : tie.Need-unread-requires
 unread-requires c κs = search needs
 
-wants-more-requires : tie.Need-wants-more-requires
-wants-more-requires c κs = search needs
-
 keep-requires : tie.Need-keep-requires
 keep-requires c κs = search needs
 
@@ -38,7 +35,6 @@ ready-spec =
     tie.close
     (tie.spec
     unread-requires
-    wants-more-requires
     keep-requires
     refill-requires
     same-length
