@@ -16,25 +16,26 @@ use Rattle.outbound.proofs.Opened.{opened as outbound}
 use Rattle.table.proofs.Opened.{opened as table}
 use Rattle.tape.proofs.Opened.{opened as tape}
 use Rattle.rules.proofs.Opened.{opened as rules}
+use Rattle.market.proofs.Opened.{opened as market}
 use Rattle.host.proofs.Opened.{opened}
 
 pub starred-hold : allHold starred ≡ true
-unfolding octets answers wire outbox inbound outbound table tape rules opened
+unfolding octets answers wire outbox inbound outbound table tape rules market opened
 starred-hold = refl
 
 pub unstarred-hold : allHold unstarred ≡ true
-unfolding octets answers wire outbox inbound outbound table tape rules opened
+unfolding octets answers wire outbox inbound outbound table tape rules market opened
 unstarred-hold = refl
 
 -- 1 73 0 S, 2 4f 0 A, 3 58 0 C, 4 58 1 -; bytes 104
 pub replay-prints : replayed 800 4096 ≡ (0 ∷ 0 ∷ 0 ∷ 1 ∷ [], code "S" ∷ code "A" ∷ code "C" ∷ code "-" ∷ [], 104)
-unfolding octets answers wire outbox inbound outbound table tape rules opened
+unfolding octets answers wire outbox inbound outbound table tape rules market opened
 replay-prints = refl
 
 pub edges-hold : allHold edges ≡ true
-unfolding octets answers wire outbox inbound outbound table tape rules opened
+unfolding octets answers wire outbox inbound outbound table tape rules market opened
 edges-hold = refl
 
 pub odds-hold : every odds ≡ true
-unfolding octets answers wire outbox inbound outbound table tape rules opened
+unfolding octets answers wire outbox inbound outbound table tape rules market opened
 odds-hold = refl

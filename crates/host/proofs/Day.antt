@@ -20,8 +20,10 @@ use Rattle.outbox.proofs.With.{fits-free, length-with}
 use Rattle.outbox.proofs.Right.{good-with}
 use Rattle.outbox.proofs.Held.{held-with, length-held}
 use Rattle.outbox.proofs.Board.{refused-release-changes-nothing, release-keeps-good, release-drops, read-is-prefix}
+use Rattle.host.proofs.Sounds.{keeps}
+use Rattle.host.proofs.Unblocked.{unblocked}
 use Rattle.host.specs.Types.{Answer, Blocked, Done, Decision, Plan, Marks}
-use Rattle.host.specs.Step.{World, Stepped, comesTo, noRoom, settle, offer, step, tableAfter, worldAfter, unchanged}
+use Rattle.host.specs.Step.{World, Outcome, comesTo, noRoom, settle, offer, step, tableAfter, worldAfter, unchanged}
 use Rattle.host.specs.Day.{Played, telling, playOn, unlimited, Action, offerNext, look, release, Ran, isBlocked, withMarks, givenUp, offered, run}
 
 -- ---- small things
@@ -84,155 +86,150 @@ pub record Kept (b : List ℕ) (p : Played) (r : Ran) : Type 0 where
 abbrev Rest : (World → List (List ℕ) → Ran) → Type 0
 Rest go = (w : World) (ss : List (List ℕ)) → Ready w → Kept (bytes w) (unlimited (w .table) ss) (go w ss)
 
--- a step that is done keeps a sound table sound, and no rule answers 'blocked'
-module _
-    (keeps : (t s : List ℕ) → sound t ≡ true → isDone (comesTo t s .answer) ≡ true → sound (tableAfter t s (comesTo t s .plan)) ≡ true)
-    (unblocked : (t s : List ℕ) → isBlocked (comesTo t s .answer) ≡ false)
-  where
-    -- a settled decision, by whether it is done and whether there is room
-    abbrev settled : World → List ℕ → Decision → Bool → Bool → Stepped
-    settled w s d done full =
-        not done ⇒ unchanged w (d .answer)
-        ⨾ full ⇒ unchanged w Blocked
-        ⨾ record { answer = Done; world = worldAfter w s (d .plan) }
+-- a settled decision, by whether it is done and whether there is room
+abbrev settled : World → List ℕ → Decision → Bool → Bool → Outcome
+settled w s d done full =
+    not done ⇒ unchanged w (d .answer)
+    ⨾ full ⇒ unchanged w Blocked
+    ⨾ record { answer = Done; world = worldAfter w s (d .plan) }
 
-    module _ (w : World) (s : List ℕ) (ss : List (List ℕ)) (go : World → List (List ℕ) → Ran) (ok : Ready w) (rest : Rest go) where
-      d : Decision
-      d = comesTo (w .table) s
+module _ (w : World) (s : List ℕ) (ss : List (List ℕ)) (go : World → List (List ℕ) → Ran) (ok : Ready w) (rest : Rest go) where
+  d : Decision
+  d = comesTo (w .table) s
 
-      play-more : isDone (d .answer) ≡ true → unlimited (w .table) (s ∷ ss) ≡ playOn (w .table) s d true (λ t. unlimited t ss)
-      unfolding unlimited d
-      play-more e = ap (λ (b : Bool). playOn (w .table) s (comesTo (w .table) s) b (λ t. unlimited t ss)) e
+  play-more : isDone (d .answer) ≡ true → unlimited (w .table) (s ∷ ss) ≡ playOn (w .table) s d true (λ t. unlimited t ss)
+  unfolding unlimited d
+  play-more e = ap (λ (b : Bool). playOn (w .table) s (comesTo (w .table) s) b (λ t. unlimited t ss)) e
 
-      by : (done full : Bool) → isDone (d .answer) ≡ done → noRoom w s (d .plan) ≡ full
-          → Kept (bytes w) (playOn (w .table) s d done (λ t. unlimited t ss)) (offered s ss (settled w s d done full) (isBlocked (settled w s d done full .answer)) go)
-      unfolding d isBlocked worldAfter
-      by false full e f =
-          let k = rest w ss ok in
-          rw (unblocked (w .table) s)
-          (record {
-            ready = k .ready;
-            answers = ap (λ (l : List Answer). d .answer ∷ l) (k .answers);
-            table = k .table;
-            messages = k .messages;
-          })
-      by true true e f =
-          subst (λ (p : Played). Kept (bytes w) p (go w (s ∷ ss))) (play-more e) (rest w (s ∷ ss) ok)
-      by true false e f =
-          let p = d .plan in
-          let m = message (stampOf s) p in
-          let after : Ready (worldAfter w s p) = record {
-            table = keeps (w .table) s (ok .table) e;
-            ring = ring-after w s p (ok .ring) f;
-          } in
-          let k = rest (worldAfter w s p) ss after in
-          let later = unlimited (tableAfter (w .table) s p) ss .messages in
-          record {
-            ready = k .ready;
-            answers = ap₂ _∷_ (sym (is-done (d .answer) e)) (k .answers);
-            table = k .table;
-            messages = k .messages
-                ∙ ap (λ (b : List ℕ). b ++ joined later) (bytes-after w s p (ok .ring) f)
-                ∙ append-assoc (bytes w) m (joined later)
-                ∙ ap (λ (l : List ℕ). bytes w ++ l) (sym (joined-telling m later));
-          }
+  by : (done full : Bool) → isDone (d .answer) ≡ done → noRoom w s (d .plan) ≡ full
+      → Kept (bytes w) (playOn (w .table) s d done (λ t. unlimited t ss)) (offered s ss (settled w s d done full) (isBlocked (settled w s d done full .answer)) go)
+  unfolding d isBlocked worldAfter
+  by false full e f =
+      let k = rest w ss ok in
+      rw (unblocked (w .table) s)
+      (record {
+        ready = k .ready;
+        answers = ap (λ (l : List Answer). d .answer ∷ l) (k .answers);
+        table = k .table;
+        messages = k .messages;
+      })
+  by true true e f =
+      subst (λ (p : Played). Kept (bytes w) p (go w (s ∷ ss))) (play-more e) (rest w (s ∷ ss) ok)
+  by true false e f =
+      let p = d .plan in
+      let m = message (stampOf s) p in
+      let after : Ready (worldAfter w s p) = record {
+        table = keeps (w .table) s (ok .table) e;
+        ring = ring-after w s p (ok .ring) f;
+      } in
+      let k = rest (worldAfter w s p) ss after in
+      let later = unlimited (tableAfter (w .table) s p) ss .messages in
+      record {
+        ready = k .ready;
+        answers = ap₂ _∷_ (sym (is-done (d .answer) e)) (k .answers);
+        table = k .table;
+        messages = k .messages
+            ∙ ap (λ (b : List ℕ). b ++ joined later) (bytes-after w s p (ok .ring) f)
+            ∙ append-assoc (bytes w) m (joined later)
+            ∙ ap (λ (l : List ℕ). bytes w ++ l) (sym (joined-telling m later));
+      }
 
-      pub offered-keeps : Kept (bytes w) (unlimited (w .table) (s ∷ ss)) (offered s ss (step w s) (isBlocked (step w s .answer)) go)
-      unfolding unlimited offer settle d
-      offered-keeps =
-          rw (step-is-offer w s ok) (by (isDone (d .answer)) (noRoom w s (d .plan)) refl refl)
+  pub offered-keeps : Kept (bytes w) (unlimited (w .table) (s ∷ ss)) (offered s ss (step w s) (isBlocked (step w s .answer)) go)
+  unfolding unlimited offer settle d
+  offered-keeps =
+      rw (step-is-offer w s ok) (by (isDone (d .answer)) (noRoom w s (d .plan)) refl refl)
 
-    -- ---- a release between
+-- ---- a release between
 
-    module _ (w : World) (k : ℕ) (ss : List (List ℕ)) (go : World → List (List ℕ) → Ran) (ok : Ready w) (rest : Rest go) where
-      abbrev lowered : World
-      lowered = withMarks w (releaseMarks (length (w .ring)) (w .marks) k)
+module _ (w : World) (k : ℕ) (ss : List (List ℕ)) (go : World → List (List ℕ) → Ran) (ok : Ready w) (rest : Rest go) where
+  abbrev lowered : World
+  lowered = withMarks w (releaseMarks (length (w .ring)) (w .marks) k)
 
-      -- what is given up and what is then held are what was held
-      ready-lowered : (done : Bool) → isDone (releaseAnswer (length (w .ring)) (w .marks) k) ≡ done
-          → Ready lowered × (givenUp w k ++ bytes lowered ≡ bytes w)
-      unfolding givenUp
-      ready-lowered true e =
-          let a = is-done (releaseAnswer (length (w .ring)) (w .marks) k) e in (
-            record { table = ok .table; ring = release-keeps-good (length (w .ring)) (w .marks) k a },
-            rw e (ap (λ (l : List ℕ). take k (bytes w) ++ l) (release-drops (w .ring) (w .marks) k a) ∙ take-append-drop k (bytes w)),
-          )
-      ready-lowered false e =
-          let m = refused-release-changes-nothing (length (w .ring)) (w .marks) k (not-done (releaseAnswer (length (w .ring)) (w .marks) k) e) in (
-            record { table = ok .table; ring = ap (ringGood (length (w .ring))) m ∙ ok .ring },
-            rw e (ap (held (w .ring)) m),
-          )
+  -- what is given up and what is then held are what was held
+  ready-lowered : (done : Bool) → isDone (releaseAnswer (length (w .ring)) (w .marks) k) ≡ done
+      → Ready lowered × (givenUp w k ++ bytes lowered ≡ bytes w)
+  unfolding givenUp
+  ready-lowered true e =
+      let a = is-done (releaseAnswer (length (w .ring)) (w .marks) k) e in (
+        record { table = ok .table; ring = release-keeps-good (length (w .ring)) (w .marks) k a },
+        rw e (ap (λ (l : List ℕ). take k (bytes w) ++ l) (release-drops (w .ring) (w .marks) k a) ∙ take-append-drop k (bytes w)),
+      )
+  ready-lowered false e =
+      let m = refused-release-changes-nothing (length (w .ring)) (w .marks) k (not-done (releaseAnswer (length (w .ring)) (w .marks) k) e) in (
+        record { table = ok .table; ring = ap (ringGood (length (w .ring))) m ∙ ok .ring },
+        rw e (ap (held (w .ring)) m),
+      )
 
-      pub released-keeps : Kept (bytes w) (unlimited (w .table) ss)
-          (let x = go lowered ss in record { left = x .left; answers = x .answers; released = givenUp w k ++ x .released; world = x .world })
-      released-keeps =
-          let q = ready-lowered (isDone (releaseAnswer (length (w .ring)) (w .marks) k)) refl in
-          let x = rest lowered ss (q .0) in
-          let later = joined (unlimited (w .table) ss .messages) in
-          record {
-            ready = x .ready;
-            answers = x .answers;
-            table = x .table;
-            messages = append-assoc (givenUp w k) _ _
-                ∙ ap (λ (l : List ℕ). givenUp w k ++ l) (x .messages)
-                ∙ sym (append-assoc (givenUp w k) (bytes lowered) later)
-                ∙ ap (λ (l : List ℕ). l ++ later) (q .1);
-          }
+  pub released-keeps : Kept (bytes w) (unlimited (w .table) ss)
+      (let x = go lowered ss in record { left = x .left; answers = x .answers; released = givenUp w k ++ x .released; world = x .world })
+  released-keeps =
+      let q = ready-lowered (isDone (releaseAnswer (length (w .ring)) (w .marks) k)) refl in
+      let x = rest lowered ss (q .0) in
+      let later = joined (unlimited (w .table) ss .messages) in
+      record {
+        ready = x .ready;
+        answers = x .answers;
+        table = x .table;
+        messages = append-assoc (givenUp w k) _ _
+            ∙ ap (λ (l : List ℕ). givenUp w k ++ l) (x .messages)
+            ∙ sym (append-assoc (givenUp w k) (bytes lowered) later)
+            ∙ ap (λ (l : List ℕ). l ++ later) (q .1);
+      }
 
-    -- ---- every schedule
+-- ---- every schedule
 
-    pub kept : (todo : List Action) → Rest (λ (w : World) (ss : List (List ℕ)). run w ss todo)
-    unfolding run
-    kept [] w ss ok = record { ready = ok; answers = refl; table = refl; messages = refl }
-    kept (look ∷ todo) w ss ok = kept todo w ss ok
-    kept (release k ∷ todo) w ss ok = released-keeps w k ss (λ (w′ : World) (ss′ : List (List ℕ)). run w′ ss′ todo) ok (kept todo)
-    kept (offerNext ∷ todo) w [] ok = kept todo w [] ok
-    kept (offerNext ∷ todo) w (s ∷ ss) ok = offered-keeps w s ss (λ (w′ : World) (ss′ : List (List ℕ)). run w′ ss′ todo) ok (kept todo)
+pub kept : (todo : List Action) → Rest (λ (w : World) (ss : List (List ℕ)). run w ss todo)
+unfolding run
+kept [] w ss ok = record { ready = ok; answers = refl; table = refl; messages = refl }
+kept (look ∷ todo) w ss ok = kept todo w ss ok
+kept (release k ∷ todo) w ss ok = released-keeps w k ss (λ (w′ : World) (ss′ : List (List ℕ)). run w′ ss′ todo) ok (kept todo)
+kept (offerNext ∷ todo) w [] ok = kept todo w [] ok
+kept (offerNext ∷ todo) w (s ∷ ss) ok = offered-keeps w s ss (λ (w′ : World) (ss′ : List (List ℕ)). run w′ ss′ todo) ok (kept todo)
 
-    -- ---- demand 3, for a schedule that gets through the list
+-- ---- demand 3, for a schedule that gets through the list
 
-    -- what a schedule that got through the entries comes to
-    pub record Streams (p : Played) (r : Ran) : Type 0 where
-      -- released bytes followed by held bytes are the messages that unlimited room would give
-      pub messages : r .released ++ bytes (r .world) ≡ joined (p .messages)
-      -- the other answers agree, in order
-      pub answers : r .answers ≡ p .answers
-      -- and so does the final table
-      pub table : r .world .table ≡ p .table
+-- what a schedule that got through the entries comes to
+pub record Streams (p : Played) (r : Ran) : Type 0 where
+  -- released bytes followed by held bytes are the messages that unlimited room would give
+  pub messages : r .released ++ bytes (r .world) ≡ joined (p .messages)
+  -- the other answers agree, in order
+  pub answers : r .answers ≡ p .answers
+  -- and so does the final table
+  pub table : r .world .table ≡ p .table
 
-    pub streams : (w : World) (ss : List (List ℕ)) (todo : List Action) → Ready w → w .marks .held ≡ 0 → run w ss todo .left ≡ []
-        → Streams (unlimited (w .table) ss) (run w ss todo)
-    unfolding unlimited joined
-    streams w ss todo ok none through =
-        let r = run w ss todo in
-        let k = kept todo w ss ok in
-        let end : unlimited (r .world .table) (r .left) ≡ record { answers = []; table = r .world .table; messages = [] } =
-        ap (unlimited (r .world .table)) through in
-        let p = unlimited (w .table) ss in
-        record {
-          messages = ap (λ (l : List ℕ). r .released ++ l) (sym (append-nil (bytes (r .world))))
-              ∙ sym (ap (λ (q : Played). r .released ++ (bytes (r .world) ++ joined (q .messages))) end)
-              ∙ k .messages
-              ∙ ap (λ (l : List ℕ). l ++ joined (p .messages)) (nothing-held w ok none);
-          answers = sym (append-nil (r .answers)) ∙ sym (ap (λ (q : Played). r .answers ++ q .answers) end) ∙ k .answers;
-          table = sym (ap (λ (q : Played). q .table) end) ∙ k .table;
-        }
+pub streams : (w : World) (ss : List (List ℕ)) (todo : List Action) → Ready w → w .marks .held ≡ 0 → run w ss todo .left ≡ []
+    → Streams (unlimited (w .table) ss) (run w ss todo)
+unfolding unlimited joined
+streams w ss todo ok none through =
+    let r = run w ss todo in
+    let k = kept todo w ss ok in
+    let end : unlimited (r .world .table) (r .left) ≡ record { answers = []; table = r .world .table; messages = [] } =
+    ap (unlimited (r .world .table)) through in
+    let p = unlimited (w .table) ss in
+    record {
+      messages = ap (λ (l : List ℕ). r .released ++ l) (sym (append-nil (bytes (r .world))))
+          ∙ sym (ap (λ (q : Played). r .released ++ (bytes (r .world) ++ joined (q .messages))) end)
+          ∙ k .messages
+          ∙ ap (λ (l : List ℕ). l ++ joined (p .messages)) (nothing-held w ok none);
+      answers = sym (append-nil (r .answers)) ∙ sym (ap (λ (q : Played). r .answers ++ q .answers) end) ∙ k .answers;
+      table = sym (ap (λ (q : Played). q .table) end) ∙ k .table;
+    }
 
-    -- at any moment, what is read next is the next part of that stream: released bytes and then the run are its beginning
-    pub reads-on : (w : World) (ss : List (List ℕ)) (todo : List Action) → Ready w → w .marks .held ≡ 0
-        → (rest : List ℕ)
-        × (run w ss todo .released ++ (readRun (run w ss todo .world .ring) (run w ss todo .world .marks) ++ rest) ≡ joined (unlimited (w .table) ss .messages))
-    reads-on w ss todo ok none =
-        let r = run w ss todo in
-        let k = kept todo w ss ok in
-        let run′ = readRun (r .world .ring) (r .world .marks) in
-        let later = joined (unlimited (r .world .table) (r .left) .messages) in
-        let front : run′ ++ drop (length run′) (bytes (r .world)) ≡ bytes (r .world) =
-        ap (λ (l : List ℕ). l ++ drop (length run′) (bytes (r .world))) (sym (read-is-prefix (r .world .ring) (r .world .marks) (k .ready .ring)))
-        ∙ take-append-drop (length run′) (bytes (r .world)) in (
-          drop (length run′) (bytes (r .world)) ++ later,
-          ap (λ (l : List ℕ). r .released ++ l)
-              (sym (append-assoc run′ (drop (length run′) (bytes (r .world))) later) ∙ ap (λ (l : List ℕ). l ++ later) front)
-              ∙ k .messages
-              ∙ ap (λ (l : List ℕ). l ++ joined (unlimited (w .table) ss .messages)) (nothing-held w ok none),
-        )
+-- at any moment, what is read next is the next part of that stream: released bytes and then the run are its beginning
+pub reads-on : (w : World) (ss : List (List ℕ)) (todo : List Action) → Ready w → w .marks .held ≡ 0
+    → (rest : List ℕ)
+    × (run w ss todo .released ++ (readRun (run w ss todo .world .ring) (run w ss todo .world .marks) ++ rest) ≡ joined (unlimited (w .table) ss .messages))
+reads-on w ss todo ok none =
+    let r = run w ss todo in
+    let k = kept todo w ss ok in
+    let run′ = readRun (r .world .ring) (r .world .marks) in
+    let later = joined (unlimited (r .world .table) (r .left) .messages) in
+    let front : run′ ++ drop (length run′) (bytes (r .world)) ≡ bytes (r .world) =
+    ap (λ (l : List ℕ). l ++ drop (length run′) (bytes (r .world))) (sym (read-is-prefix (r .world .ring) (r .world .marks) (k .ready .ring)))
+    ∙ take-append-drop (length run′) (bytes (r .world)) in (
+      drop (length run′) (bytes (r .world)) ++ later,
+      ap (λ (l : List ℕ). r .released ++ l)
+          (sym (append-assoc run′ (drop (length run′) (bytes (r .world))) later) ∙ ap (λ (l : List ℕ). l ++ later) front)
+          ∙ k .messages
+          ∙ ap (λ (l : List ℕ). l ++ joined (unlimited (w .table) ss .messages)) (nothing-held w ok none),
+    )

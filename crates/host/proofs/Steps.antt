@@ -10,10 +10,10 @@ use Rattle.answers.specs.Answer.{isDone}
 use Rattle.table.specs.Table.{sound}
 use Rattle.outbox.specs.Outbox.{ringGood}
 use Rattle.host.specs.Types.{Answer, Blocked, Done, NotSound, WrongRing, Decision}
-use Rattle.host.specs.Step.{World, Stepped, comesTo, noRoom, settle, offer, step, worldAfter, unchanged}
+use Rattle.host.specs.Step.{World, Outcome, comesTo, noRoom, settle, offer, step, worldAfter, unchanged}
 
 -- a step, by what was judged: table, ring, whether the entry comes to something done, and whether there is no room for its message
-abbrev pub stepBy : World → List ℕ → Decision → Bool → Bool → Bool → Bool → Stepped
+abbrev pub stepBy : World → List ℕ → Decision → Bool → Bool → Bool → Bool → Outcome
 stepBy w s d tableGood ringRight done full =
     not tableGood ⇒ unchanged w NotSound
     ⨾ not ringRight ⇒ unchanged w WrongRing

@@ -14,7 +14,7 @@ use Rattle.wire.specs.Messages.{outbound}
 use Rattle.outbox.specs.Outbox.{held, releaseAnswer, releaseMarks}
 use Rattle.rules.specs.Sent.{message}
 use Rattle.tape.specs.Entries.{stampOf}
-use Rattle.host.specs.Step.{World, Stepped, step, comesTo, tableAfter}
+use Rattle.host.specs.Step.{World, Outcome, step, comesTo, tableAfter}
 use Rattle.host.specs.Types.{Answer, Blocked, Done, Decision, Marks}
 
 -- ---- unlimited room: what the rules alone make of a list of entries
@@ -68,7 +68,7 @@ unfoldable pub givenUp : World → ℕ → List ℕ
 givenUp w k = pick (isDone (releaseAnswer (length (w .ring)) (w .marks) k)) (take k (held (w .ring) (w .marks))) []
 
 -- a blocked entry stays the next one
-abbrev pub offered : List ℕ → List (List ℕ) → Stepped → Bool → (World → List (List ℕ) → Ran) → Ran
+abbrev pub offered : List ℕ → List (List ℕ) → Outcome → Bool → (World → List (List ℕ) → Ran) → Ran
 offered s ss r true rest = rest (r .world) (s ∷ ss)
 offered s ss r false rest =
     let x = rest (r .world) ss in

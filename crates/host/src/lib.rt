@@ -1,1 +1,4 @@
-// The host: one call that takes an entry, and the theorems of the whole.
+// The host: one call that takes an entry to the table and its message to the outbox, and the theorems of the whole.
+pub mod commit;
+pub mod decide;
+pub mod step;

@@ -1,7 +1,7 @@
 -- Each of the four messages that a client sends is faithful to its layout: reading and writing are each other's inverses, the answers are given exactly when the
 -- paper says, and no promise allows two results. One law, cited for each. Assumes nothing.
 use mathlib.Core.Path.{refl}
-use Rattle.wire.specs.Layout.{spell, wellLaid, unbroken, gapsAreZero}
+use Rattle.wire.specs.Layout.{wellLaid, unbroken, gapsAreZero}
 use Rattle.wire.specs.Messages.{enterOrder, replaceOrder, cancelOrder, modifyOrder}
 use Rattle.wire.specs.Faithful.{Faithful}
 use Rattle.wire.proofs.RoundTrips.{faithful}

@@ -1,7 +1,7 @@
 -- Each of the twelve messages that the host sends is faithful to its layout: reading and writing are each other's inverses, the answers are given exactly when the
 -- paper says, and no promise allows two results. One law, cited for each. Assumes nothing.
 use mathlib.Core.Path.{refl}
-use Rattle.wire.specs.Layout.{spell, wellLaid, unbroken, gapsAreZero}
+use Rattle.wire.specs.Layout.{wellLaid, unbroken, gapsAreZero}
 use Rattle.wire.specs.Messages.{systemEvent, accepted, replaced, canceled, aiqCancelled, executed, brokenTrade, rejected, cancelPending, cancelReject, priorityUpdate, modified}
 use Rattle.wire.specs.Faithful.{Faithful}
 use Rattle.wire.proofs.RoundTrips.{faithful}

@@ -1,109 +1,29 @@
--- Every decision of the rules keeps what it should: first each shape that a plan may have, then each change of a live order, then each rule,
--- guard by guard. Assumes nothing.
-use Prim.Native.Nat.{ℕ, _+_, _≤_}
+-- Every decision of the clients' rules keeps what it should, guard by guard. Assumes nothing.
+use Prim.Native.Nat.{ℕ}
 use mathlib.Core.Path.{_≡_, refl, ap, _∙_}
-use mathlib.Core.Bool.{Bool, true, false, not, _&&_, _||_}
+use mathlib.Core.Bool.{Bool, true, false, not}
 use mathlib.Core.List.{List}
 use lib.ListN.{length, length-take, length-drop}
-use lib.Dec.{eqb}
 use native.Mathlib.Omega.{arith}
-use borrow.Author.Tests.{eqb-false, ltb-true, not-false}
+use borrow.Author.Tests.{not-false}
 use Rattle.octets.specs.Bytes.{zeros}
 use Rattle.octets.specs.Choice.{pick, among}
-use Rattle.octets.proofs.Guards.{guard, or-left, or-right}
-use Rattle.wire.specs.Letters.{closed, notInThisCross, userRequested, noCross, crosses, startOfDay, endOfDay, firmNotListed, invalidStock, invalidDisplay, invalidPrice, aboveThreshold, invalidMinimum}
-use Rattle.wire.specs.Shares.{total, _isBelow_, _equals_, _less_}
+use Rattle.octets.proofs.Guards.{guard}
+use Rattle.wire.specs.Letters.{closed, firmNotListed, invalidStock, notInThisCross, invalidDisplay, invalidPrice, aboveThreshold, invalidMinimum, userRequested, crosses}
+use Rattle.wire.specs.Shares.{total, _equals_, _less_}
 use Rattle.wire.specs.Limits.{tokenSize}
 use Rattle.wire.specs.Text.{shaped as shapely}
-use Rattle.table.specs.Limits.{mostShares, dayBefore, dayOpen, dayClosed}
-use Rattle.table.specs.Counts.{gone, openShares, newCounts, cut, withLiable, executing, selfMatching}
+use Rattle.table.specs.Counts.{gone, openShares, newCounts, cut, withLiable}
 use Rattle.table.specs.Header.{isOpenDay, isListed, isBlank, meantFirm, firmAt}
-use Rattle.table.specs.Order.{isLive, isUsed, isLate, isPending, rejectSent, withShares, withFlags, withSide, withDetails, markedLate, markedPending, markedRejectSent, clearedLate, clearedPending, killed}
-use Rattle.rules.specs.Types.{Answer, Ignored, NotLive, WrongMoment, WrongShares, Counts, Order, Header, Decision, Notice, Fault, EnterOrder, ReplaceOrder, CancelOrder, ModifyOrder, Execution, BookCancel, SelfMatch, Priority, System, AiqCancelled, Canceled, Executed, Modified, PriorityUpdate, Replaced}
-use Rattle.rules.specs.Plan.{noPlan, refused, changing, renumbering, accepting, replacing as replacingBy, rejecting, beginning}
-use Rattle.rules.specs.Sane.{Open, Sane, Shaped, HeaderHolds, EnterShaped, stillLive, toldExecuted, Changed, unchanged, changed, Born, nothing, rejected, entered, replacing, Keeps}
+use Rattle.table.specs.Order.{isLive, isUsed, isLate, rejectSent, withFlags, withSide, markedPending, markedRejectSent}
+use Rattle.rules.specs.Types.{Ignored, Order, Header, Decision, Fault, EnterOrder, ReplaceOrder, CancelOrder, ModifyOrder, Canceled, Modified, Replaced}
+use Rattle.rules.specs.Sane.{Sane, Shaped, HeaderHolds, EnterShaped, Born, Keeps}
 use Rattle.rules.specs.Enter.{badDisplay, badPrice, badShares, badMinimum, enterFault, enteredKept, enteredOrder, enterOutcome, enterRule}
 use Rattle.rules.specs.Replace.{badDetails, replacementOrder, replaceOpen, replaceRule}
 use Rattle.rules.specs.Cancel.{cancelIgnored, decrement, canceledOrder, lateCancel, cancelRule}
 use Rattle.rules.specs.Modify.{modifyIgnored, modifiedOrder, modifyRule}
-use Rattle.rules.specs.Market.{sharesWrong, executionRule, bookCancelRule, selfMatchRule, prioritisedOrder, priorityRule, lateRule, crossDoneRule, systemRule}
-use Rattle.rules.proofs.Moments.{cancel-live, cancel-smaller, modify-live, modify-above, modify-within, no-more-than-open, fair-shares, good-shares, new-open}
-use Rattle.rules.proofs.Standing.{live-state, counted}
-
--- ---- the shapes of plans
-
-module _ {named : Order} {token : List ℕ} where
-  pub refused-keeps : (answer : Answer) → Keeps named token (refused answer)
-  unfolding noPlan
-  refused-keeps answer = record { changed = unchanged refl; added = nothing refl; begins = omega arith }
-
-  pub changing-keeps : {o : Order} {notice : Notice} → Changed named notice o → Keeps named token (changing o notice)
-  unfolding changing
-  changing-keeps h = record { changed = changed h; added = nothing refl; begins = omega arith }
-
-  pub renumbering-keeps : {o : Order} {notice : Notice} → Changed named notice o → Keeps named token (renumbering o notice)
-  unfolding renumbering
-  renumbering-keeps h = record { changed = changed h; added = nothing refl; begins = omega arith }
-
-  pub accepting-keeps : {new : Order} → Born token 0 0 (zeros tokenSize) new → Keeps named token (accepting new)
-  unfolding accepting
-  accepting-keeps h = record { changed = unchanged refl; added = entered h; begins = omega arith }
-
-  pub rejecting-keeps : (reason : ℕ) → Keeps named token (rejecting token reason)
-  unfolding rejecting
-  rejecting-keeps reason = record { changed = unchanged refl; added = rejected refl; begins = omega arith }
-
-  pub replacing-keeps : {old new : Order} → Changed named Replaced old
-      → Born token (named .shares .executed .0) (named .shares .matched .0) (named .token) new → Keeps named token (replacingBy old new)
-  unfolding replacingBy
-  replacing-keeps h born = record { changed = changed h; added = replacing born; begins = omega arith }
-
-  pub beginning-keeps : (day event : ℕ) → day ≤ dayClosed → Keeps named token (beginning day event)
-  unfolding beginning
-  beginning-keeps day event known = record { changed = unchanged refl; added = nothing refl; begins = known }
-
--- ---- the changes of a live order
-
-module _ (o : Order) (alive : isLive o ≡ true) (shares : Open (o .shares)) (shaped : Shaped o) where
-  -- what leaves its counts alone
-  pub uncounted : (flags : ℕ) {notice : Notice} → toldExecuted notice ≡ 0 → Changed o notice (withFlags o flags)
-  unfolding withFlags
-  uncounted flags silent =
-      record {
-        standing = stillLive (live-state o alive) shares;
-        shaped = record { token = shaped .token; stock = shaped .stock; firm = shaped .firm; previous = shaped .previous };
-        token = refl;
-        executed = omega (arith, silent);
-      }
-
-  -- what moves them
-  pub recounted : (side flags : ℕ) (s : Counts) (notice : Notice) → s .executed .0 + s .matched .0 ≤ s .liable .0 → s .liable .0 ≤ mostShares
-      → s .executed .0 ≡ o .shares .executed .0 + toldExecuted notice → Changed o notice (withShares (withFlags (withSide o side) flags) s)
-  unfolding withShares withFlags withSide
-  recounted side flags s notice within most told =
-      record {
-        standing = counted (withFlags (withSide o side) flags) s (live-state o alive) within most;
-        shaped = record { token = shaped .token; stock = shaped .stock; firm = shaped .firm; previous = shaped .previous };
-        token = refl;
-        executed = told;
-      }
-
-  pub ended : (flags : ℕ) (notice : Notice) → toldExecuted notice ≡ 0 → Changed o notice (killed (withFlags o flags))
-  unfolding killed gone withFlags withSide
-  ended flags notice silent = recounted (o .side) flags _ notice (omega arith) (omega arith) (omega (arith, silent))
-
-  -- what gives it other terms and another reference
-  pub prioritised : (h : Header) (e : Priority) → Changed o PriorityUpdate (prioritisedOrder h o e)
-  unfolding prioritisedOrder withDetails
-  prioritised h e =
-      record {
-        standing = stillLive (live-state o alive) shares;
-        shaped = record { token = shaped .token; stock = shaped .stock; firm = shaped .firm; previous = shaped .previous };
-        token = refl;
-        executed = omega arith;
-      }
-
--- ---- what clients send
+use Rattle.rules.proofs.Moments.{cancel-live, cancel-smaller, modify-live, modify-above, modify-within, fair-shares, good-shares, new-open}
+use Rattle.rules.proofs.Shapes.{refused-keeps, changing-keeps, accepting-keeps, rejecting-keeps, replacing-keeps, uncounted, recounted, ended}
 
 pub cancel-keeps : (o : Order) (e : CancelOrder) (t : List ℕ) → Sane o → Shaped o → Keeps o t (cancelRule o e)
 unfolding cancelRule lateCancel canceledOrder decrement cut withLiable gone markedPending markedRejectSent withFlags withSide
@@ -205,74 +125,3 @@ replace-keeps h old found e holds sane shaped long names =
   where
     Good : Decision → Type 0
     Good d = Keeps old (e .replacement) d
-
--- ---- what the market and the book tell
-
-pub execution-keeps : (h : Header) (o : Order) (e : Execution) (t : List ℕ) → Sane o → Shaped o → Keeps o t (executionRule h o e)
-unfolding executionRule executing withFlags withSide
-execution-keeps h o e t sane shaped =
-    guard (Keeps o t) (not (isLive o)) (λ _. refused-keeps NotLive) λ l.
-    guard (Keeps o t) (not (isOpenDay h)) (λ _. refused-keeps WrongMoment) λ _.
-    guard (Keeps o t) (sharesWrong o (e .shares)) (λ _. refused-keeps WrongShares) λ fair.
-    let shares = sane (not-false _ l) in
-    let room = no-more-than-open o (e .shares) shares fair in
-    changing-keeps
-    (recounted o (not-false _ l) shares shaped (o .side) (o .flags) (executing (o .shares) (e .shares)) (Executed e) (omega arith) (omega arith)
-    (omega arith))
-
-pub book-cancel-keeps : (o : Order) (e : BookCancel) (t : List ℕ) → Sane o → Shaped o → Keeps o t (bookCancelRule o e)
-unfolding bookCancelRule cut withLiable withFlags withSide
-book-cancel-keeps o e t sane shaped =
-    guard (Keeps o t) (not (isLive o)) (λ _. refused-keeps NotLive) λ l.
-    guard (Keeps o t) (sharesWrong o (e .shares)) (λ _. refused-keeps WrongShares) λ fair.
-    let shares = sane (not-false _ l) in
-    let room = no-more-than-open o (e .shares) shares fair in
-    changing-keeps
-    (recounted o (not-false _ l) shares shaped (o .side) (o .flags) (cut (o .shares) (e .shares)) (Canceled (e .shares) (e .reason)) (omega arith)
-    (omega arith) (omega arith))
-
-pub self-match-keeps : (h : Header) (o : Order) (e : SelfMatch) (t : List ℕ) → Sane o → Shaped o → Keeps o t (selfMatchRule h o e)
-unfolding selfMatchRule selfMatching withFlags withSide
-self-match-keeps h o e t sane shaped =
-    guard (Keeps o t) (not (isLive o)) (λ _. refused-keeps NotLive) λ l.
-    guard (Keeps o t) (not (isOpenDay h)) (λ _. refused-keeps WrongMoment) λ _.
-    guard (Keeps o t) (sharesWrong o (e .shares)) (λ _. refused-keeps WrongShares) λ fair.
-    let shares = sane (not-false _ l) in
-    let room = no-more-than-open o (e .shares) shares fair in
-    changing-keeps
-    (recounted o (not-false _ l) shares shaped (o .side) (o .flags) (selfMatching (o .shares) (e .shares)) (AiqCancelled e) (omega arith)
-    (omega arith) (omega arith))
-
-pub priority-keeps : (h : Header) (o : Order) (e : Priority) (t : List ℕ) → Sane o → Shaped o → Keeps o t (priorityRule h o e)
-unfolding priorityRule
-priority-keeps h o e t sane shaped =
-    guard (Keeps o t) (not (isLive o)) (λ _. refused-keeps NotLive) λ l.
-    guard (Keeps o t) (not (isOpenDay h)) (λ _. refused-keeps WrongMoment) λ _.
-    renumbering-keeps (prioritised o (not-false _ l) (sane (not-false _ l)) shaped h e)
-
-pub late-keeps : (h : Header) (o : Order) (t : List ℕ) → Sane o → Shaped o → Keeps o t (lateRule h o)
-unfolding lateRule markedLate
-late-keeps h o t sane shaped =
-    guard (Keeps o t) (not (isLive o)) (λ _. refused-keeps NotLive) λ l.
-    guard (Keeps o t) (not (isOpenDay h)) (λ _. refused-keeps WrongMoment) λ _.
-    guard (Keeps o t) (eqb (o .details .kept .cross) noCross || isLate o) (λ _. refused-keeps WrongMoment) λ _.
-    changing-keeps (uncounted o (not-false _ l) (sane (not-false _ l)) shaped _ refl)
-
-pub cross-done-keeps : (o : Order) (t : List ℕ) → Sane o → Shaped o → Keeps o t (crossDoneRule o)
-unfolding crossDoneRule clearedLate clearedPending withFlags
-cross-done-keeps o t sane shaped =
-    guard (Keeps o t) (not (isLive o)) (λ _. refused-keeps NotLive) λ l.
-    let alive = not-false _ l in
-    let shares = sane alive in
-    guard (Keeps o t) (not (isLate o)) (λ _. refused-keeps WrongMoment) λ _.
-    guard (Keeps o t) (isPending o)
-    (λ _.
-    changing-keeps (ended o alive shares shaped (clearedPending (clearedLate o) .flags) (Canceled (openShares (o .shares)) userRequested) refl)) λ _.
-    changing-keeps (uncounted o alive shares shaped _ refl)
-
-pub system-keeps : (h : Header) (e : System) (o : Order) (t : List ℕ) → Keeps o t (systemRule h e)
-unfolding systemRule
-system-keeps h e o t =
-    guard (Keeps o t) (eqb (e .event) startOfDay && eqb (h .day) dayBefore) (λ _. beginning-keeps dayOpen (e .event) (omega arith)) λ _.
-    guard (Keeps o t) (eqb (e .event) endOfDay && eqb (h .day) dayOpen) (λ _. beginning-keeps dayClosed (e .event) (omega arith)) λ _.
-    refused-keeps WrongMoment

@@ -2,7 +2,6 @@
 use Prim.Native.Nat.{ℕ, _+_, _<_, _≤_}
 use mathlib.Core.Path.{_≡_, refl}
 use mathlib.Core.Bool.{Bool, true, false, not, _||_}
-use lib.Dec.{eqb}
 use native.Mathlib.Omega.{arith}
 use borrow.Author.Tests.{eqb-false, ltb-true, ltb-false, not-false}
 use Rattle.octets.specs.Choice.{pick}
@@ -10,17 +9,16 @@ use Rattle.octets.proofs.Guards.{or-left, or-right}
 use Rattle.wire.specs.declared.price.Price.{Price}
 use Rattle.wire.specs.declared.price.Priced.the-variants.{Good, Bad}
 use Rattle.table.specs.Limits.{mostShares}
-use Rattle.table.specs.Counts.{gone, openShares}
+use Rattle.table.specs.Counts.{gone}
 use Rattle.table.specs.Order.{isLive, isLate}
 use Rattle.table.specs.Header.{isOpenDay}
 use Rattle.wire.specs.Shares.{total, _isBelow_, _equals_}
-use Rattle.rules.specs.Types.{Order, Header, Total, Removed, ModifyOrder, ReplaceOrder}
-use Rattle.rules.specs.Sane.{Open, HeaderHolds}
+use Rattle.rules.specs.Types.{Order, Header, Total, ModifyOrder, ReplaceOrder}
+use Rattle.rules.specs.Sane.{HeaderHolds}
 use Rattle.rules.specs.Enter.{badShares}
 use Rattle.rules.specs.Replace.{badDetails}
 use Rattle.rules.specs.Cancel.{cancelIgnored}
 use Rattle.rules.specs.Modify.{sideAllowed, modifyIgnored}
-use Rattle.rules.specs.Market.{sharesWrong}
 
 -- a cancel that is not ignored
 
@@ -52,13 +50,6 @@ unfolding modifyIgnored
 modify-within h o e p =
     ltb-false _ _
     (or-right (moment h o || not (sideAllowed (o .side) (e .side)) || not (gone (o .shares) isBelow e .shares)) _ (or-left _ _ p))
-
--- shares that are not wrong
-
-pub no-more-than-open : (o : Order) (d : Removed) → Open (o .shares) → sharesWrong o d ≡ false
-    → o .shares .executed .0 + o .shares .matched .0 + d .0 ≤ o .shares .liable .0
-unfolding sharesWrong openShares gone
-no-more-than-open o d shares e = omega (arith, ltb-false (openShares (o .shares) .0) (d .0) (or-right (eqb (d .0) 0) _ e))
 
 -- a price is made exactly where it is good
 

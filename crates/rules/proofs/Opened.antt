@@ -2,11 +2,10 @@
 use Rattle.rules.specs.Plan.{noPlan, changing, renumbering, accepting, replacing, rejecting, beginning}
 use Rattle.rules.specs.Enter.{badDisplay, badPrice, badShares, badMinimum, enterFault, acceptedTerms, enteredKept, enteredOrder, enterOutcome, enterRule}
 use Rattle.rules.specs.Replace.{badDetails, replacementOrder, replaceOpen, replaceRule}
-use Rattle.rules.specs.Cancel.{cancelIgnored, decrement, canceledOrder, lateCancel, cancelRule}
-use Rattle.rules.specs.Modify.{sideAllowed, modifiedOrder, modifyIgnored, modifyRule}
-use Rattle.rules.specs.Market.{sharesWrong, executionRule, bookCancelRule, selfMatchRule, prioritisedOrder, priorityRule, lateRule, crossDoneRule, systemRule}
+use Rattle.rules.specs.Cancel.{cancelIgnored, lateCancel, decrement, canceledOrder, cancelRule}
+use Rattle.rules.specs.Modify.{sideAllowed, modifyIgnored, modifiedOrder, modifyRule}
 use Rattle.rules.specs.Sent.{acceptedNotice, replacedNotice, canceledNotice, selfMatchNotice, executedNotice, rejectedNotice, priorityNotice, modifiedNotice, noticeBytes, message}
 
 unfoldable pub opened : Unit {0}
-unfolding noPlan changing renumbering accepting replacing rejecting beginning badDisplay badPrice badShares badMinimum enterFault acceptedTerms enteredKept enteredOrder enterOutcome enterRule badDetails replacementOrder replaceOpen replaceRule cancelIgnored decrement canceledOrder lateCancel cancelRule sideAllowed modifiedOrder modifyIgnored modifyRule sharesWrong executionRule bookCancelRule selfMatchRule prioritisedOrder priorityRule lateRule crossDoneRule systemRule acceptedNotice replacedNotice canceledNotice selfMatchNotice executedNotice rejectedNotice priorityNotice modifiedNotice noticeBytes message
+unfolding noPlan changing renumbering accepting replacing rejecting beginning badDisplay badPrice badShares badMinimum enterFault acceptedTerms enteredKept enteredOrder enterOutcome enterRule badDetails replacementOrder replaceOpen replaceRule cancelIgnored lateCancel decrement canceledOrder cancelRule sideAllowed modifyIgnored modifiedOrder modifyRule acceptedNotice replacedNotice canceledNotice selfMatchNotice executedNotice rejectedNotice priorityNotice modifiedNotice noticeBytes message
 opened = tt

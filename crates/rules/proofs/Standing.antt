@@ -1,5 +1,5 @@
 -- What becomes of a live order stands: it is live with something open, or dead with nothing. Assumes nothing.
-use Prim.Native.Nat.{ℕ, _+_, _≤_}
+use Prim.Native.Nat.{_+_, _≤_}
 use mathlib.Core.Path.{_≡_, refl, _∙_, ap}
 use mathlib.Core.Bool.{Bool, true, false}
 use lib.Dec.{eqb}
@@ -12,7 +12,7 @@ use Rattle.table.specs.Limits.{mostShares}
 use Rattle.table.specs.Counts.{gone, openShares}
 use Rattle.table.specs.Order.{isLive, withShares}
 use Rattle.rules.specs.Types.{Counts, Order}
-use Rattle.rules.specs.Sane.{Open, Spent, Standing, stillLive, nowDead}
+use Rattle.rules.specs.Sane.{Standing, stillLive, nowDead}
 
 pub live-state : (o : Order) → isLive o ≡ true → o .state ≡ live
 unfolding isLive

@@ -12,14 +12,6 @@ use Rattle.rules.specs.Types.{Canceled, CancelPending, CancelReject, Dec
 unfoldable pub cancelIgnored : Order → Total → Bool
 cancelIgnored o size = not (isLive o) || not (size isBelow o .shares .liable) || isPending o
 
--- the decrement is liable less the larger of size and executed + self-matched
-unfoldable pub decrement : Order → Total → Removed
-decrement o size = o .shares .liable less larger size (gone (o .shares))
-
--- and liable falls by it
-unfoldable pub canceledOrder : Order → Total → Order
-canceledOrder o size = withShares o (cut (o .shares) (decrement o size))
-
 -- Late and size 0: Cancel Pending, pending set. Late, size above 0: Cancel Reject once a token, then 1
 unfoldable pub lateCancel : Order → Total → Decision
 lateCancel o size =
@@ -27,6 +19,14 @@ lateCancel o size =
     size equals total 0 ⇒ changing (markedPending o) CancelPending
     ⨾ rejectSent o ⇒ ignored
     ⨾ changing (markedRejectSent o) CancelReject
+
+-- Otherwise Canceled U; the decrement is liable less the larger of size and executed + self-matched
+unfoldable pub decrement : Order → Total → Removed
+decrement o size = o .shares .liable less larger size (gone (o .shares))
+
+-- and liable falls by it
+unfoldable pub canceledOrder : Order → Total → Order
+canceledOrder o size = withShares o (cut (o .shares) (decrement o size))
 
 unfoldable pub cancelRule : Order → CancelOrder → Decision
 cancelRule o e =

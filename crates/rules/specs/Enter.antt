@@ -34,19 +34,20 @@ badShares h shares = (shares equals total 0) || not (shares isBelow h .threshold
 unfoldable pub badMinimum : ℕ → ℕ → Removed → Bool
 badMinimum minimum time shares = (ltb 0 minimum && not (eqb time immediate)) || exceeds minimum shares
 
--- ---- the fault of an O: its letter
+-- ---- the fault of an O: the first that applies
 
+-- day not open; firm (blank means default) not listed; stock not 1 to 8 capitals then spaces; cross not N O C; and those above
 unfoldable pub enterFault : Header → EnterOrder → Fault
 enterFault h e =
     firstOf
-    not (isOpenDay h) ⇒ Letter closed
-    ⨾ not (isListed h (meantFirm h (e .firm))) ⇒ Letter firmNotListed
-    ⨾ not (shaped (e .stock)) ⇒ Letter invalidStock
-    ⨾ not (among crosses (e .cross)) ⇒ Letter notInThisCross
-    ⨾ badDisplay (e .display) (e .cross) ⇒ Letter invalidDisplay
-    ⨾ badPrice (e .price) (e .cross) ⇒ Letter invalidPrice
-    ⨾ badShares h (e .shares) ⇒ Letter aboveThreshold
-    ⨾ badMinimum (e .minimum) (e .time) (e .shares less total 0) ⇒ Letter invalidMinimum
+    not (isOpenDay h) ⇒ Letter closed  -- C
+    ⨾ not (isListed h (meantFirm h (e .firm))) ⇒ Letter firmNotListed  -- L
+    ⨾ not (shaped (e .stock)) ⇒ Letter invalidStock  -- S
+    ⨾ not (among crosses (e .cross)) ⇒ Letter notInThisCross  -- R
+    ⨾ badDisplay (e .display) (e .cross) ⇒ Letter invalidDisplay  -- D
+    ⨾ badPrice (e .price) (e .cross) ⇒ Letter invalidPrice  -- X
+    ⨾ badShares h (e .shares) ⇒ Letter aboveThreshold  -- Z
+    ⨾ badMinimum (e .minimum) (e .time) (e .shares less total 0) ⇒ Letter invalidMinimum  -- N
     ⨾ Absent
 
 -- ---- the order as accepted
@@ -66,7 +67,7 @@ enteredKept h e =
       cross = e .cross;
     }
 
--- live, with the next reference
+-- live, fields echoed and so stored; it takes the next reference
 unfoldable pub enteredOrder : Header → EnterOrder → Order
 enteredOrder h e =
     record {
@@ -84,11 +85,12 @@ enteredOrder h e =
       };
     }
 
+-- the letter is sent in a Rejected Message and the token stored as R; if there is none, Accepted
 unfoldable pub enterOutcome : Header → EnterOrder → Fault → Decision
 enterOutcome h e (Letter reason) = rejecting (e .token) reason
 enterOutcome h e Absent = accepting (enteredOrder h e)
 
--- `found` is what the entry's token means so far
+-- Used token: 1. (`found` is what the entry's token means so far.)
 unfoldable pub enterRule : Header → Order → EnterOrder → Decision
 enterRule h found e =
     firstOf

@@ -6,5 +6,4 @@ pub mod Enter
 pub mod Replace
 pub mod Cancel
 pub mod Modify
-pub mod Market
 pub mod Sent

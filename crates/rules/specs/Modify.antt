@@ -15,10 +15,6 @@ use Rattle.rules.specs.Types.{Modified, Decision, Order, Header, ModifyO
 unfoldable pub sideAllowed : ℕ → ℕ → Bool
 sideAllowed before after = eqb before after || (among sellSides before && among sellSides after)
 
--- side and liable are stored
-unfoldable pub modifiedOrder : Order → ModifyOrder → Order
-modifiedOrder o e = withShares (withSide o (e .side)) (withLiable (o .shares) (e .shares))
-
 -- 1 if not live, day not open, late, side neither the same nor a change among S T E, shares not above executed + self-matched or above
 -- liable, or nothing would change
 unfoldable pub modifyIgnored : Header → Order → ModifyOrder → Bool
@@ -31,7 +27,11 @@ modifyIgnored h o e =
     || (o .shares .liable isBelow e .shares)
     || (eqb (o .side) (e .side) && o .shares .liable equals e .shares)
 
--- Otherwise side and liable are stored, and Modified shows the new open
+-- Otherwise side and liable are stored
+unfoldable pub modifiedOrder : Order → ModifyOrder → Order
+modifiedOrder o e = withShares (withSide o (e .side)) (withLiable (o .shares) (e .shares))
+
+-- and Modified shows the new open
 unfoldable pub modifyRule : Header → Order → ModifyOrder → Decision
 modifyRule h o e =
     firstOf

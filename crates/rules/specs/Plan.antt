@@ -5,6 +5,7 @@ use mathlib.Core.List.{List}
 use Rattle.table.specs.Order.{noOrder, rejectedOrder}
 use Rattle.rules.specs.Types.{Order, Answer, Plan, Decision, Notice, Silent, Rejected, Accepted, Replaced, SystemEvent, Done, Ignored, NotLive, WrongMoment, WrongShares}
 
+-- nothing changes and nothing is told
 unfoldable pub noPlan : Plan
 noPlan = record { begins = 0; changed = noOrder; added = noOrder; numbered = false; notice = Silent }
 
@@ -51,6 +52,7 @@ unfoldable pub rejecting : List ℕ → ℕ → Decision
 rejecting token reason =
     planned (record { begins = 0; changed = noOrder; added = rejectedOrder token; numbered = false; notice = Rejected reason })
 
+-- System Event, sets day
 unfoldable pub beginning : ℕ → ℕ → Decision
 beginning day event =
     planned (record { begins = day; changed = noOrder; added = noOrder; numbered = false; notice = SystemEvent event })

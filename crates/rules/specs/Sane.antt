@@ -8,7 +8,6 @@ use Rattle.octets.specs.Bytes.{zeros}
 use Rattle.wire.specs.Letters.{live, dead}
 use Rattle.wire.specs.Limits.{tokenSize}
 use Rattle.table.specs.Limits.{mostShares, highestThreshold, firmSize, mostFirms, dayClosed}
-use Rattle.table.specs.Counts.{newCounts}
 use Rattle.table.specs.Order.{isLive, noOrder, rejectedOrder}
 use Rattle.rules.specs.Types.{Counts, Order, Header, EnterOrder, Decision, Notice, Silent, SystemEvent, Accepted, Replaced, Canceled, AiqCancelled, Executed, Rejected, CancelPending, CancelReject, PriorityUpdate, Modified}
 
@@ -69,8 +68,9 @@ toldExecuted CancelReject = 0
 toldExecuted PriorityUpdate = 0
 toldExecuted Modified = 0
 
--- `after` is what becomes of the order `named`
+-- `after` is what becomes of the order `named`, which was live: no rule changes another
 pub record Changed (named : Order) (notice : Notice) (after : Order) : Type 0 where
+  pub alive : isLive named ≡ true
   pub standing : Standing after
   pub shaped : Shaped after
   pub token : after .token ≡ named .token

@@ -1,9 +1,11 @@
 -- The message that a plan sends, stamped with the entry's stamp (Answer numbers, in order of checking, last sentence; What each entry does).
-use Prim.Native.Nat.{ℕ, _≤_}
+use Prim.Native.Nat.{ℕ, _≤_, _<_}
 use mathlib.Core.Path.{_≡_}
 use mathlib.Core.List.{List, []}
 use lib.ListN.{length, take}
 use Rattle.wire.specs.Letters.{selfMatchPrevention, unspecifiedWeight}
+use Rattle.wire.specs.Layout.{Values, spell}
+use Rattle.wire.specs.Messages.{message as wireMessage}
 use Rattle.table.specs.Counts.{openShares}
 use Rattle.outbound.specs.Outbound.{systemEventBytes, acceptedBytes, replacedBytes, canceledBytes, aiqCancelledBytes, executedBytes, rejectedBytes, cancelPendingBytes, cancelRejectBytes, priorityUpdateBytes, modifiedBytes}
 use Rattle.outbound.specs.declared.accepted.Accepted.{Accepted as AcceptedMessage}
@@ -133,3 +135,9 @@ pub record Spells (m : List ℕ) (s : Sent) : Type 0 where
   pub bytes : take (s .len) (s .bytes) ≡ m
   pub len : s .len ≡ length m
   pub most : s .len ≤ longestMessage
+
+-- what goes out for an entry: nothing, or one of the twelve outbound messages (numbers 4 to 15 of the sixteen), its type in front
+pub data AtMostOne (s : List ℕ) : Type 0 where
+  silent : s ≡ [] → AtMostOne s
+  told : (k : ℕ) → 4 ≤ k → k < 16 → (v : Values (wireMessage k .fields)) → s ≡ spell (wireMessage k) v → length s ≡ wireMessage k .size
+      → length s ≤ longestMessage → AtMostOne s

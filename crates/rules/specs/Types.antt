@@ -8,10 +8,7 @@ pub use Rattle.inbound.specs.declared.replace_order.ReplaceOrder.{ReplaceOrder}
 pub use Rattle.inbound.specs.declared.cancel_order.CancelOrder.{CancelOrder}
 pub use Rattle.inbound.specs.declared.modify_order.ModifyOrder.{ModifyOrder}
 pub use Rattle.tape.specs.declared.entry.Execution.{Execution}
-pub use Rattle.tape.specs.declared.entry.BookCancel.{BookCancel}
 pub use Rattle.tape.specs.declared.entry.SelfMatch.{SelfMatch}
-pub use Rattle.tape.specs.declared.entry.Priority.{Priority}
-pub use Rattle.tape.specs.declared.entry.System.{System}
 pub use Rattle.table.specs.declared.header.Header.{Header}
 pub use Rattle.table.specs.declared.order.Counts.{Counts}
 pub use Rattle.table.specs.declared.order.Kept.{Kept}

@@ -35,10 +35,9 @@ fn decrement(o: Order, size: Total) -> Removed
     ensures { λ r. ⌜ r ≡ decrement o size ⌝ }
 {
     let floor = gone(o.shares);
-    if size.0 < floor.0 {
-        return Removed(o.shares.liable.0 - floor.0);
-    }
-    Removed(o.shares.liable.0 - size.0)
+    let end = if size.0 < floor.0 { floor.0 } else { size.0 };
+    let by = o.shares.liable.0 - end;
+    Removed(by)
 }
 
 fn canceled_order(o: Order, size: Total) -> Order

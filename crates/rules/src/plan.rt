@@ -136,7 +136,7 @@ pub fn rejecting(token: [u8; 14], reason: u8) -> Decision
         begins: 0,
         changed: none,
         added,
-        numbered: false,
+        numbered: false, // what is rejected has no reference
         notice: Notice::Rejected(reason),
     };
     Decision {

@@ -32,6 +32,18 @@ use table::counts::open_shares;
 use table::order::Order;
 use tape::entry::Execution;
 use tape::entry::SelfMatch;
+use wire::messages::ACCEPTED;
+use wire::messages::AIQ_CANCELLED;
+use wire::messages::CANCEL_PENDING;
+use wire::messages::CANCEL_REJECT;
+use wire::messages::CANCELED;
+use wire::messages::EXECUTED;
+use wire::messages::MODIFIED;
+use wire::messages::PRIORITY_UPDATE;
+use wire::messages::REJECTED;
+use wire::messages::REPLACED;
+use wire::messages::SYSTEM_EVENT;
+use wire::messages::size;
 use wire::shares::Removed;
 
 // A message at the front of 80 bytes; what stands behind it is not sent.
@@ -51,7 +63,8 @@ fn system_event_sent(stamp: u64, event: u8) -> Sent
     ensures { λ r. ⌜ Spells (systemEventBytes (record { stamp = stamp; event = event })) r ⌝ }
 {
     let bytes = spell_system_event(SystemEvent { stamp, event });
-    Sent { bytes, len: 10 }
+    let len = size(SYSTEM_EVENT);
+    Sent { bytes, len }
 }
 
 fn accepted_notice(stamp: u64, o: Order) -> Accepted
@@ -87,7 +100,8 @@ fn accepted_sent(stamp: u64, new: Order) -> Sent
     ensures { λ r. ⌜ Spells (acceptedBytes (acceptedNotice stamp new)) r ⌝ }
 {
     let bytes = spell_accepted(accepted_notice(stamp, new));
-    Sent { bytes, len: 66 }
+    let len = size(ACCEPTED);
+    Sent { bytes, len }
 }
 
 fn replaced_notice(stamp: u64, o: Order) -> Replaced
@@ -125,7 +139,8 @@ fn replaced_sent(stamp: u64, new: Order) -> Sent
     ensures { λ r. ⌜ Spells (replacedBytes (replacedNotice stamp new)) r ⌝ }
 {
     let bytes = spell_replaced(replaced_notice(stamp, new));
-    Sent { bytes, len: 80 }
+    let len = size(REPLACED);
+    Sent { bytes, len }
 }
 
 fn canceled_sent(stamp: u64, o: Order, decrement: Removed, reason: u8) -> Sent
@@ -138,7 +153,8 @@ fn canceled_sent(stamp: u64, o: Order, decrement: Removed, reason: u8) -> Sent
         decrement,
         reason,
     });
-    Sent { bytes, len: 28 }
+    let len = size(CANCELED);
+    Sent { bytes, len }
 }
 
 fn self_match_sent(stamp: u64, o: Order, e: SelfMatch) -> Sent
@@ -156,7 +172,8 @@ fn self_match_sent(stamp: u64, o: Order, e: SelfMatch) -> Sent
         price: e.price,
         flag: e.flag,
     });
-    Sent { bytes, len: 37 }
+    let len = size(AIQ_CANCELLED);
+    Sent { bytes, len }
 }
 
 fn executed_sent(stamp: u64, o: Order, e: Execution) -> Sent
@@ -172,7 +189,8 @@ fn executed_sent(stamp: u64, o: Order, e: Execution) -> Sent
         flag: e.flag,
         match_number: e.match_number,
     });
-    Sent { bytes, len: 40 }
+    let len = size(EXECUTED);
+    Sent { bytes, len }
 }
 
 fn rejected_sent(stamp: u64, new: Order, reason: u8) -> Sent
@@ -184,7 +202,8 @@ fn rejected_sent(stamp: u64, new: Order, reason: u8) -> Sent
         token,
         reason,
     });
-    Sent { bytes, len: 24 }
+    let len = size(REJECTED);
+    Sent { bytes, len }
 }
 
 fn cancel_pending_sent(stamp: u64, o: Order) -> Sent
@@ -192,7 +211,8 @@ fn cancel_pending_sent(stamp: u64, o: Order) -> Sent
 {
     let token = o.token;
     let bytes = spell_cancel_pending(CancelPending { stamp, token });
-    Sent { bytes, len: 23 }
+    let len = size(CANCEL_PENDING);
+    Sent { bytes, len }
 }
 
 fn cancel_reject_sent(stamp: u64, o: Order) -> Sent
@@ -200,7 +220,8 @@ fn cancel_reject_sent(stamp: u64, o: Order) -> Sent
 {
     let token = o.token;
     let bytes = spell_cancel_reject(CancelReject { stamp, token });
-    Sent { bytes, len: 23 }
+    let len = size(CANCEL_REJECT);
+    Sent { bytes, len }
 }
 
 fn priority_sent(stamp: u64, o: Order) -> Sent
@@ -214,7 +235,8 @@ fn priority_sent(stamp: u64, o: Order) -> Sent
         display: o.details.terms.display,
         reference: o.details.reference,
     });
-    Sent { bytes, len: 36 }
+    let len = size(PRIORITY_UPDATE);
+    Sent { bytes, len }
 }
 
 fn modified_sent(stamp: u64, o: Order) -> Sent
@@ -229,7 +251,8 @@ fn modified_sent(stamp: u64, o: Order) -> Sent
         side: o.side,
         shares,
     });
-    Sent { bytes, len: 28 }
+    let len = size(MODIFIED);
+    Sent { bytes, len }
 }
 
 // `o` is the changed order, `new` the added one.

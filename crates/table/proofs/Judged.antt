@@ -4,22 +4,20 @@ use mathlib.Core.Bool.{Bool, true, false, _&&_, _||_, and-true, and-assoc, or-fa
 use mathlib.Core.List.{List, [], _∷_}
 use mathlib.Core.Option.{Option, none, some}
 use Prim.Native.Nat.{ℕ, _+_, _≤_}
-use native.Mathlib.Omega.{arith}
 use borrow.Author.Tests.{eqb-true, ne-eqb}
 use lib.ListN.{length, take, drop, getD}
-use lib.Seq.{getD-take, getD-drop}
 use lib.Dec.{leb, ltb, eqb, leb·zero}
 use Rattle.octets.specs.Choice.{pick, _⇒_⨾_, every, allBelow}
 use Rattle.octets.specs.Bytes.{part, numberOf, allAre}
 use Rattle.octets.proofs.Laws.{length-part}
-use Rattle.octets.proofs.Below.{all-first, all-same}
+use Rattle.octets.proofs.Below.{all-first, all-part}
 use Rattle.wire.specs.Text.{tokenByte}
-use Rattle.wire.specs.Layout.{Field, badTokenByte, nonZeroByte, badPlace, unless, orElse, isNone, firstBadPlace, noBadPlace}
+use Rattle.wire.specs.Layout.{badTokenByte, nonZeroByte, badPlace, unless, orElse, isNone, firstBadPlace, noBadPlace}
 use Rattle.table.specs.Limits.{headerSize, dayClosed, fewestFirms, mostFirms, firstReference, endOfReferences, lowestThreshold, highestThreshold, mostShares}
 use Rattle.wire.specs.Letters.{live, dead, rejectedToken}
 use Rattle.wire.specs.Limits.{stampEnd, tokenSize}
 use Rattle.table.specs.Counts.{gone}
-use Rattle.table.specs.Order.{Order, recordLayout, liableGood, stateSound, recordSound}
+use Rattle.table.specs.Order.{Order, recordLayout, orderOf, liableGood, stateSound, recordSound}
 use Rattle.table.specs.Header.{headerOf, headerLayout, firmsShaped, restBlank, headerSound}
 use Rattle.table.specs.Table.{recordsIn, sizeGood, recordBytes, header, sound}
 
@@ -42,7 +40,11 @@ unfolding nonZeroByte allAre
 zero-bytes at [] = refl
 zero-bytes at (b ∷ bs) = none-picked (eqb b 0) (nonZeroByte (1 + at) bs) at ∙ ap (λ (t : Bool). eqb b 0 && t) (zero-bytes (1 + at) bs)
 
-token-bytes : (at : ℕ) (xs : List ℕ) → isNone (badTokenByte at xs) ≡ allBelow (length xs) (λ k. tokenByte (getD xs k 0))
+-- every byte is one that a token holds
+abbrev pub legalToken : List ℕ → Bool
+legalToken xs = allBelow (length xs) (λ k. tokenByte (getD xs k 0))
+
+pub token-bytes : (at : ℕ) (xs : List ℕ) → isNone (badTokenByte at xs) ≡ legalToken xs
 unfolding badTokenByte allBelow
 token-bytes at [] = refl
 token-bytes at (b ∷ bs) =
@@ -80,15 +82,18 @@ thirty-two : (r : List ℕ) → allBelow 32 (tokenPlace r) ≡ allBelow 14 (λ k
 unfolding allBelow
 thirty-two r = simp and-true
 
+pub record-token : (r : List ℕ) → noBadPlace recordLayout r ≡ legalToken (orderOf r .token)
+unfolding noBadPlace firstBadPlace badPlace orderOf
+record-token r = none-of-both (badTokenByte 1 (part r 1 14)) none ∙ and-true _ ∙ token-bytes 1 (part r 1 14)
+
 -- 32 bytes of the record are asked instead of the token's 14
 pub token-tests : (r : List ℕ) → 15 ≤ length r → allBelow 32 (tokenPlace r) ≡ noBadPlace recordLayout r
-unfolding noBadPlace firstBadPlace badPlace
+unfolding orderOf
 token-tests r h =
-    let e : length (part r 1 14) ≡ 14 = length-part r 1 14 h in
     thirty-two r
-    ∙ all-same _ _ 14 (λ k l. ap tokenByte (sym (getD-take 14 (drop 1 r) k 0 l ∙ getD-drop 1 r k 0)))
-    ∙ ap (λ (n : ℕ). allBelow n (λ k. tokenByte (getD (part r 1 14) k 0))) (sym e)
-    ∙ sym (none-of-both (badTokenByte 1 (part r 1 14)) none ∙ and-true _ ∙ token-bytes 1 (part r 1 14))
+    ∙ all-part tokenByte r 1 14
+    ∙ ap (λ (n : ℕ). allBelow n (λ k. tokenByte (getD (part r 1 14) k 0))) (sym (length-part r 1 14 h))
+    ∙ sym (record-token r)
 
 -- ---- a record's state
 

@@ -3,5 +3,10 @@ pub mod Flags
 pub mod Runs
 pub mod Judged
 pub mod Tokens
+pub mod Spelled
+pub mod Stored
 pub mod Soundness
+pub mod Keeps
 pub mod Freshness
+pub mod Finding
+pub mod Unique

@@ -8,7 +8,7 @@ use Rattle.wire.specs.Letters.{space}
 use Rattle.table.specs.Limits.{dayBefore, dayOpen, dayClosed, fewestFirms, mostFirms, firmSize, firstReference, endOfReferences, lowestThreshold, highestThreshold}
 use Rattle.octets.specs.Bytes.{part, same, allAre}
 use Rattle.wire.specs.Text.{shaped}
-use Rattle.wire.specs.Layout.{Field, rangeAt, numberAt, textAt, gapAt, stampAt, noBadPlace, reading, laid}
+use Rattle.wire.specs.Layout.{Field, rangeAt, numberAt, textAt, gapAt, stampAt, FromFields, noBadPlace, reading, laid}
 use Rattle.wire.specs.Shares.{total}
 pub use Rattle.table.specs.declared.header.Header.{Header}
 
@@ -25,9 +25,9 @@ headerLayout =
     ∷ gapAt 60 4  -- zero
     ∷ []
 
-unfoldable pub headerOf : List ℕ → Header
-headerOf s =
-    reading headerLayout s λ day count _ used last reference threshold firms _.
+-- the fields, in their order, as a header
+abbrev pub headerFields : FromFields headerLayout Header
+headerFields day count _ used last reference threshold firms _ =
     record {
       day = day;
       count = count;
@@ -37,6 +37,9 @@ headerOf s =
       threshold = total threshold;
       firms = firms;
     }
+
+unfoldable pub headerOf : List ℕ → Header
+headerOf s = reading headerLayout s headerFields
 
 unfoldable pub headerBytes : Header → List ℕ
 headerBytes h =

@@ -11,7 +11,7 @@ use Rattle.wire.specs.Letters.{live, dead, rejectedToken}
 use Rattle.wire.specs.Limits.{tokenSize}
 use Rattle.table.specs.Limits.{recordSize, mostShares, lateBit, pendingBit, rejectSentBit}
 use Rattle.octets.specs.Bytes.{zeros, allAre}
-use Rattle.wire.specs.Layout.{Field, tokenAt, letterAt, numberAt, textAt, noBadPlace, reading, laid}
+use Rattle.wire.specs.Layout.{Field, tokenAt, letterAt, numberAt, textAt, FromFields, noBadPlace, reading, laid}
 use Rattle.wire.specs.Shares.{total, _isBelow_, _equals_}
 use Rattle.table.specs.Counts.{Counts, gone, openShares, newCounts}
 pub use Rattle.table.specs.declared.order.Kept.{Kept}
@@ -42,10 +42,9 @@ recordLayout =
     ∷ letterAt 79  -- zero in every record that a step adds; judged only in a rejected token
     ∷ []
 
--- the order that 80 bytes hold
-unfoldable pub orderOf : List ℕ → Order
-orderOf s =
-    reading recordLayout s λ state token side liable executed matched stock price time firm display capacity sweep minimum cross reference flags previous spare.
+-- the fields, in their order, as an order
+abbrev pub orderFields : FromFields recordLayout Order
+orderFields state token side liable executed matched stock price time firm display capacity sweep minimum cross reference flags previous spare =
     record {
       state = state;
       token = token;
@@ -60,6 +59,10 @@ orderOf s =
         spare = spare;
       };
     }
+
+-- the order that 80 bytes hold
+unfoldable pub orderOf : List ℕ → Order
+orderOf s = reading recordLayout s orderFields
 
 -- the 80 bytes of an order
 unfoldable pub orderBytes : Order → List ℕ

@@ -1,19 +1,19 @@
 -- The first bad place of a list of fields: there is none exactly when every field obeys its rule, and where there is one it is the smallest
 -- offset of a bad byte. Assumes nothing.
 use mathlib.Core.Path.{_≡_, refl, sym, ap, _∙_, subst}
-use mathlib.Core.Bool.{Bool, true, false, _&&_}
+use mathlib.Core.Bool.{Bool, true, false}
 use mathlib.Core.Logic.{_⊎_, ⊎-elim, inl, inr}
-use mathlib.Core.List.{List, [], _∷_, List·Memᴰ, List·Memᴰ·head, List·Memᴰ·tail, List·Memᴰ·cases-cons, List·Memᴰ·not-nil}
+use mathlib.Core.List.{List, [], _∷_, List·Memᴰ·head, List·Memᴰ·tail, List·Memᴰ·cases-cons, List·Memᴰ·not-nil}
 use mathlib.Core.Option.{Option, none, some}
-use Prim.Native.Nat.{ℕ, _+_, _≤_, _<_}
+use Prim.Native.Nat.{ℕ, _+_, _≤_}
 use native.Mathlib.Omega.{arith}
-use lib.Dec.{eqb, leb, ltb}
+use lib.Dec.{eqb}
 use lib.ListN.{length, drop, length-take}
 use Rattle.octets.specs.Bytes.{part, numberOf}
 use Rattle.octets.specs.Choice.{among}
 use Rattle.wire.specs.Text.{tokenByte}
-use Rattle.wire.specs.Layout.{Rule, free, below, between, oneOf, legalToken, allZero, Field, Layout, unless, badPlace, orElse, firstBadPlace, unbroken}
-use Rattle.wire.specs.Legal.{LetterDigitOrSpace, Obeys, _∈_, AllObey, BadByte, BadIn, FirstBad, _exactlyWhen_}
+use Rattle.wire.specs.Layout.{Rule, free, below, between, oneOf, legalToken, allZero, Field, unless, badPlace, orElse, firstBadPlace, unbroken}
+use Rattle.wire.specs.Legal.{LetterDigitOrSpace, Obeys, _∈_, AllObey, BadByte, BadIn, FirstBad}
 use Rattle.wire.proofs.Layouts.{none-before, first-at, rest-unbroken}
 use Rattle.wire.proofs.Says.{Says, not-so, says-eq, says-lt, says-within, says-token, says-among}
 use Rattle.wire.proofs.FirstNot.{no-place, some-is, token-bytes, zero-bytes, all-pass, none-found, found-fails, found-first}

@@ -1,20 +1,22 @@
 -- A reader's answers are given exactly when the paper says: 0 to the legal messages, 2 to those of another length or type, 3 to the rest.
 -- Assumes nothing.
 use mathlib.Core.Path.{_≡_, refl, sym, ap, _∙_}
-use mathlib.Core.Bool.{Bool, true, false, not}
-use mathlib.Core.Logic.{_⊎_, ⊎-elim, inl, inr}
+use mathlib.Core.Bool.{true}
+use mathlib.Core.Logic.{⊎-elim}
 use mathlib.Core.List.{List}
 use mathlib.Core.Option.{Option, none, some}
-use Prim.Native.Nat.{ℕ, _≤_, _<_}
+use Prim.Native.Nat.{ℕ, _<_}
 use native.Mathlib.Omega.{arith}
 use lib.Dec.{eqb}
 use lib.ListN.{length, getD}
 use borrow.Author.Tests.{eqb-true, eqb-false}
-use Rattle.answers.specs.declared.Answer.{Answer}
 use Rattle.answers.specs.declared.Answer.the-variants.{Done, Malformed, BadField}
-use Rattle.wire.specs.Layout.{Layout, place, firstBadPlace, wellLaid, spell}
+use Rattle.octets.specs.Bytes.{part, numberOf}
+use Rattle.wire.specs.Letters.{sides, sweeps}
+use Rattle.wire.specs.Limits.{stampEnd, tokenSize}
+use Rattle.wire.specs.Layout.{Layout, stampAt, tokenAt, sideAt, sweepAt, isNone, firstBadPlace, noBadPlace, wellLaid}
 use Rattle.wire.specs.Messages.{readAnswer}
-use Rattle.wire.specs.Legal.{AllObey, Legal, FirstBad, _exactlyWhen_}
+use Rattle.wire.specs.Legal.{LetterDigitOrSpace, OneOf, Obeys, _∈_, AllObey, Legal, FirstBad, _exactlyWhen_}
 use Rattle.wire.proofs.Says.{seen}
 use Rattle.wire.proofs.Verdicts.{wrong-length, wrong-type, bad-field, legal}
 use Rattle.wire.proofs.FirstNot.{no-place}
@@ -28,8 +30,9 @@ pub data Way (l : Layout) (s : List ℕ) : Type 0 where
 
 module _ (l : Layout) (s : List ℕ) where
   judged : length s ≡ l .size → getD s 0 0 ≡ l .code → (o : Option ℕ) → firstBadPlace (l .fields) s ≡ o → Way l s
-  judged e t none p = done (legal l s e t (ap place p)) (record { long = e; typed = t; judged = all-obey (l .fields) s p })
-  judged e t (some i) p = bad (bad-field l s e t i (ap place p)) e t (λ h. no-place (sym (no-bad-place (l .fields) s h) ∙ p))
+  unfolding noBadPlace
+  judged e t none p = done (legal l s e t (ap isNone p)) (record { long = e; typed = t; judged = all-obey (l .fields) s p })
+  judged e t (some i) p = bad (bad-field l s e t (ap isNone p)) e t (λ h. no-place (sym (no-bad-place (l .fields) s h) ∙ p))
 
   pub way : Way l s
   way =
@@ -43,7 +46,8 @@ module _ (l : Layout) (s : List ℕ) where
       (seen (eqb (length s) (l .size)))
 
   pub done-exactly : (readAnswer l s ≡ Done) exactlyWhen Legal l s
-  done-exactly = (λ a. from a way, λ h. legal l s (h .long) (h .typed) (ap place (no-bad-place (l .fields) s (h .judged))))
+  unfolding noBadPlace
+  done-exactly = (λ a. from a way, λ h. legal l s (h .long) (h .typed) (ap isNone (no-bad-place (l .fields) s (h .judged))))
     where
       from : readAnswer l s ≡ Done → Way l s → Legal l s
       from a (malformed e h) = let z : _≡_ {A = ℕ} 0 1 = cc in absurd (omega arith)
@@ -80,3 +84,22 @@ module _ (l : Layout) (s : List ℕ) where
   pub smallest-offset : wellLaid l ≡ true → (p : ℕ) → firstBadPlace (l .fields) s ≡ some p → FirstBad (l .fields) s p
   unfolding wellLaid
   smallest-offset well p h = first-bad (l .fields) 1 (l .size) s p well h
+
+-- ---- a legal message's fields, in the paper's words
+
+module _ (l : Layout) (s : List ℕ) (h : Legal l s) (at : ℕ) where
+  pub stamp-below-end : stampAt at ∈ l .fields → numberOf (part s at 8) < stampEnd
+  unfolding Obeys
+  stamp-below-end m = h .judged (stampAt at) m
+
+  pub token-characters : tokenAt at ∈ l .fields → (i : ℕ) → i < length (part s at tokenSize) → LetterDigitOrSpace (getD (part s at tokenSize) i 0)
+  unfolding Obeys
+  token-characters m = h .judged (tokenAt at) m
+
+  pub side-letter : sideAt at ∈ l .fields → OneOf sides (numberOf (part s at 1))
+  unfolding Obeys
+  side-letter m = h .judged (sideAt at) m
+
+  pub sweep-letter : sweepAt at ∈ l .fields → OneOf sweeps (numberOf (part s at 1))
+  unfolding Obeys
+  sweep-letter m = h .judged (sweepAt at) m

@@ -1,19 +1,19 @@
 -- The laws of layouts, once over every list of fields: lengths, values that are spelled and read again, bytes that are read and spelled
 -- again. Assumes nothing.
-use mathlib.Core.Path.{_≡_, refl, sym, ap, ap₂, _∙_, subst}
+use mathlib.Core.Path.{_≡_, refl, sym, ap, ap₂, _∙_}
 use mathlib.Core.Bool.{Bool, true, false, _&&_}
-use mathlib.Core.List.{List, [], _∷_, _++_, append-assoc, append-nil}
+use mathlib.Core.List.{List, [], _∷_, _++_, append-assoc}
 use mathlib.Core.Option.{Option, none, some}
-use Prim.Native.Nat.{ℕ, zero, suc, _+_, _^_, _≤_, _<_}
+use Prim.Native.Nat.{ℕ, zero, _+_, _≤_}
 use native.Mathlib.Omega.{arith}
 use lib.Dec.{eqb}
-use lib.ListN.{length, take, drop, getD, replicate, length-append, length-drop, length-replicate, drop-of-length-le, take-append-drop}
-use lib.Seq.{take-all, take-at, drop-at, drop-drop, take-add, drop-cons, getD-drop, length-take-le}
+use lib.ListN.{length, take, drop, getD, length-append, length-replicate, drop-of-length-le, take-append-drop}
+use lib.Seq.{take-all, take-at, drop-at, drop-drop, drop-cons}
 use borrow.Author.Tests.{eqb-true}
 use Rattle.octets.specs.Bytes.{part, numberOf, digits, zeros}
 use Rattle.octets.proofs.Laws.{number-digits, length-digits, digits-number, length-part, part-bytes}
 use Rattle.octets.specs.Choice.{pick}
-use Rattle.wire.specs.Layout.{Form, number, bytes, gap, Rule, free, below, between, oneOf, legalToken, allZero, Field, Value, Values, FitsField, Fits, readValue, spellValue, get, readFields, spellFields, nonZeroByte, badPlace, orElse, firstBadPlace, Layout, spell, unbroken, wellLaid, gapIsZero, gapsAreZero}
+use Rattle.wire.specs.Layout.{Form, number, bytes, gap, Rule, free, below, between, oneOf, legalToken, allZero, Field, Value, Values, FitsField, Fits, readValue, spellValue, readFields, spellFields, nonZeroByte, badPlace, orElse, firstBadPlace, Layout, spell, unbroken, wellLaid, gapIsZero, gapsAreZero}
 use Rattle.wire.specs.Legal.{Bytes}
 
 -- ---- what the computed conditions say

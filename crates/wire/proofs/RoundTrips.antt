@@ -4,18 +4,18 @@ use mathlib.Core.Path.{_≡_, refl, sym, ap, _∙_}
 use mathlib.Core.Bool.{Bool, true, false, not}
 use mathlib.Core.List.{List, _++_}
 use Prim.Native.Nat.{ℕ, _≤_}
-use lib.Dec.{eqb, ltb}
+use lib.Dec.{ltb}
 use lib.ListN.{length, take, drop, getD, length-replicate}
 use lib.Seq.{take-at}
 use borrow.Author.Tests.{eq-eqb, le-ltb}
-use Rattle.octets.specs.Choice.{firstOf_, _⇒_⨾_}
+use Rattle.octets.specs.Choice.{_⇒_⨾_}
 use Rattle.octets.specs.Bytes.{zeros}
 use Rattle.answers.specs.Answer.{isDone, ifDone}
 use Rattle.answers.specs.declared.Answer.{Answer}
 use Rattle.answers.specs.declared.Answer.the-variants.{Done, BadField, NoRoom}
 use Rattle.wire.specs.Layout.{Layout, Values, Fits, FromFields, atOnce, reading, readFields, noBadPlace, spell, wellLaid, gapsAreZero}
 use Rattle.wire.specs.Messages.{readAnswer, legalOrZeros, writeAnswer, written}
-use Rattle.wire.specs.Legal.{Bytes, Legal}
+use Rattle.wire.specs.Legal.{Bytes}
 use Rattle.wire.specs.Faithful.{Faithful}
 use Rattle.wire.proofs.Layouts.{sized-all, length-spelled, values-again, message-again}
 use Rattle.wire.proofs.BadPlaces.{no-bad-place}

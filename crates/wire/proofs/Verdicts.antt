@@ -1,41 +1,37 @@
 -- What a reader and a writer answer, by what the code found on its way there. Assumes nothing.
 use mathlib.Core.Path.{_≡_, refl, sym, ap, _∙_}
-use mathlib.Core.Bool.{Bool, true, false, not}
+use mathlib.Core.Bool.{Bool, true, false}
 use mathlib.Core.List.{List, _++_}
 use mathlib.Core.Option.{Option, none, some}
 use Prim.Native.Nat.{ℕ, _≤_, _<_}
 use native.Mathlib.Omega.{arith}
-use lib.Dec.{eqb, ltb}
 use lib.ListN.{length, take, drop, getD}
 use lib.Seq.{length-take-le}
 use native.Mathlib.Nat.{zero-add}
 use Rattle.octets.specs.Bytes.{put}
 use borrow.Author.Tests.{eq-eqb, ne-eqb, lt-ltb, le-ltb}
 use Rattle.answers.specs.Answer.{isDone, ifDone}
-use Rattle.answers.specs.declared.Answer.{Answer}
 use Rattle.answers.specs.declared.Answer.the-variants.{Done, Malformed, BadField, NoRoom}
-use Rattle.wire.specs.Layout.{Layout, Field, Place, Nowhere, At, place, isNone, firstBadPlace, noBadPlace}
+use Rattle.wire.specs.Layout.{Layout, Field, Nowhere, At, place, isNone, firstBadPlace, noBadPlace}
 use Rattle.wire.specs.Messages.{readAnswer, writeAnswer, written}
 
-never : {A : Type 0} {i : ℕ} → Nowhere ≡ At i → A
-never e = let z : _≡_ {A = ℕ} 0 1 = cc in absurd (omega arith)
-
 -- nothing is bad where there is no first bad place
-clean : (fs : List Field) (s : List ℕ) → place (firstBadPlace fs s) ≡ Nowhere → noBadPlace fs s ≡ true
-unfolding noBadPlace
-clean fs s e = go (firstBadPlace fs s) e
-  where
-    go : (x : Option ℕ) → place x ≡ Nowhere → isNone x ≡ true
-    go none e = refl
-    go (some i) e = never (sym e)
+module _ (fs : List Field) (s : List ℕ) where
+  pub clean : place (firstBadPlace fs s) ≡ Nowhere → noBadPlace fs s ≡ true
+  unfolding noBadPlace
+  clean e = go (firstBadPlace fs s) e
+    where
+      go : (x : Option ℕ) → place x ≡ Nowhere → isNone x ≡ true
+      go none e = refl
+      go (some i) e = let z : _≡_ {A = ℕ} 0 1 = cc in absurd (omega arith)
 
-unclean : (fs : List Field) (s : List ℕ) (i : ℕ) → place (firstBadPlace fs s) ≡ At i → noBadPlace fs s ≡ false
-unfolding noBadPlace
-unclean fs s i e = go (firstBadPlace fs s) e
-  where
-    go : (x : Option ℕ) → place x ≡ At i → isNone x ≡ false
-    go none e = never e
-    go (some j) e = refl
+  pub unclean : {i : ℕ} → place (firstBadPlace fs s) ≡ At i → noBadPlace fs s ≡ false
+  unfolding noBadPlace
+  unclean {i} e = go (firstBadPlace fs s) e
+    where
+      go : (x : Option ℕ) → place x ≡ At i → isNone x ≡ false
+      go none e = let z : _≡_ {A = ℕ} 0 1 = cc in absurd (omega arith)
+      go (some j) e = refl
 
 module _ (l : Layout) (s : List ℕ) where
   pub wrong-length : (length s ≡ l .size → ⊥) → readAnswer l s ≡ Malformed
@@ -46,37 +42,36 @@ module _ (l : Layout) (s : List ℕ) where
   unfolding readAnswer
   wrong-type e h = rw (eq-eqb (length s) (l .size) e, ne-eqb (getD s 0 0) (l .code) h)
 
-  pub bad-field : length s ≡ l .size → getD s 0 0 ≡ l .code → (i : ℕ) → place (firstBadPlace (l .fields) s) ≡ At i → readAnswer l s ≡ BadField
+  pub bad-field : length s ≡ l .size → getD s 0 0 ≡ l .code → noBadPlace (l .fields) s ≡ false → readAnswer l s ≡ BadField
   unfolding readAnswer
-  bad-field e t i p = rw (eq-eqb (length s) (l .size) e, eq-eqb (getD s 0 0) (l .code) t, unclean (l .fields) s i p)
+  bad-field e t p = rw (eq-eqb (length s) (l .size) e, eq-eqb (getD s 0 0) (l .code) t, p)
 
-  pub legal : length s ≡ l .size → getD s 0 0 ≡ l .code → place (firstBadPlace (l .fields) s) ≡ Nowhere → readAnswer l s ≡ Done
+  pub legal : length s ≡ l .size → getD s 0 0 ≡ l .code → noBadPlace (l .fields) s ≡ true → readAnswer l s ≡ Done
   unfolding readAnswer
-  legal e t p = rw (eq-eqb (length s) (l .size) e, eq-eqb (getD s 0 0) (l .code) t, clean (l .fields) s p)
+  legal e t p = rw (eq-eqb (length s) (l .size) e, eq-eqb (getD s 0 0) (l .code) t, p)
 
 -- a writer of the first n bytes of what was spelled, n as the code has it
 module _ (l : Layout) (spelled buffer : List ℕ) (n : ℕ) (e : n ≡ l .size) where
-  found : {p : Place} → place (firstBadPlace (l .fields) (take n spelled)) ≡ p → place (firstBadPlace (l .fields) (take (l .size) spelled)) ≡ p
-  found h = ap (λ (m : ℕ). place (firstBadPlace (l .fields) (take m spelled))) (sym e) ∙ h
+  -- the code's test of them is the layout's
+  found : {b : Bool} → noBadPlace (l .fields) (take n spelled) ≡ b → noBadPlace (l .fields) (take (l .size) spelled) ≡ b
+  found h = ap (λ (m : ℕ). noBadPlace (l .fields) (take m spelled)) (sym e) ∙ h
 
-  pub not-legal : (i : ℕ) → place (firstBadPlace (l .fields) (take n spelled)) ≡ At i
+  pub not-legal : noBadPlace (l .fields) (take n spelled) ≡ false
       → (BadField ≡ writeAnswer l (take (l .size) spelled) buffer) × (buffer ≡ written l (take (l .size) spelled) buffer)
   unfolding writeAnswer written ifDone isDone
-  not-legal i h = let u = unclean (l .fields) (take (l .size) spelled) i (found h) in (rw u, rw u)
+  not-legal h = let u = found h in (rw u, rw u)
 
-  pub no-room : place (firstBadPlace (l .fields) (take n spelled)) ≡ Nowhere → length buffer < l .size
+  pub no-room : noBadPlace (l .fields) (take n spelled) ≡ true → length buffer < l .size
       → (NoRoom ≡ writeAnswer l (take (l .size) spelled) buffer) × (buffer ≡ written l (take (l .size) spelled) buffer)
   unfolding writeAnswer written ifDone isDone
-  no-room h short =
-      let u = clean (l .fields) (take (l .size) spelled) (found h) in
-      let f = lt-ltb (length buffer) (l .size) short in (rw (u, f), rw (u, f))
+  no-room h short = let u = found h in let f = lt-ltb (length buffer) (l .size) short in (rw (u, f), rw (u, f))
 
-  pub sent : place (firstBadPlace (l .fields) (take n spelled)) ≡ Nowhere → l .size ≤ length buffer → l .size ≤ length spelled
+  pub sent : noBadPlace (l .fields) (take n spelled) ≡ true → l .size ≤ length buffer → l .size ≤ length spelled
       → {exit : List ℕ} → exit ≡ put buffer 0 (take n spelled)
       → (Done ≡ writeAnswer l (take (l .size) spelled) buffer) × (exit ≡ written l (take (l .size) spelled) buffer)
   unfolding writeAnswer written ifDone isDone
   sent h room whole {exit} x =
-      let u = clean (l .fields) (take (l .size) spelled) (found h) in
+      let u = found h in
       let f = le-ltb (length buffer) (l .size) room in
       let long : length (take (l .size) spelled) ≡ l .size = length-take-le (l .size) spelled whole in
       let y : exit ≡ take (l .size) spelled ++ drop (l .size) buffer =

@@ -1,7 +1,6 @@
 // What every reader and every writer ends with, once for all messages.
-use crate::judge::first_bad;
+use crate::judge::is_clean;
 use crate::messages::size;
-use crate::places::Place;
 use answers::Answer;
 ghost use mathlib.Core.Path.{_≡_};
 ghost use mathlib.Core.List.{_++_};
@@ -27,14 +26,14 @@ pub fn send(buffer: &mut [u8], spelled: &[u8], k: usize) -> Answer
 {
     let n = size(k);
     let bytes = &spelled[0..n];
-    match first_bad(bytes, k) {
-        Place::At(_) => Answer::BadField,
-        Place::Nowhere => {
-            if buffer.len() < n {
-                return Answer::NoRoom;
-            }
-            octets::put_bytes(buffer, 0, bytes);
-            Answer::Done
-        }
+    let clean = is_clean(bytes, k);
+    let short = buffer.len() < n;
+    if !clean {
+        return Answer::BadField;
     }
+    if short {
+        return Answer::NoRoom;
+    }
+    octets::put_bytes(buffer, 0, bytes);
+    Answer::Done
 }

@@ -16,7 +16,7 @@ use answers::Answer;
 ghost use mathlib.Core.Path.{_≡_};
 ghost use Prim.Native.Nat.{_<_, _≤_};
 ghost use lib.ListN.{length};
-ghost use Rattle.wire.specs.Layout.{place, firstBadPlace};
+ghost use Rattle.wire.specs.Layout.{place, firstBadPlace, noBadPlace};
 ghost use Rattle.wire.specs.Messages.{message, readAnswer};
 
 // Length and type, then the judged fields.
@@ -30,9 +30,20 @@ pub fn judge(s: &[u8], k: usize) -> Answer
     if s[0] != letter_of(k) {
         return Answer::Malformed;
     }
+    if is_clean(s, k) {
+        return Answer::Done;
+    }
+    Answer::BadField
+}
+
+// Nothing is bad where there is no first bad place.
+pub fn is_clean(s: &[u8], k: usize) -> bool
+    requires { ⌜ (k < 16) × (length (now s) ≡ message k .size) ⌝ }
+    ensures { λ r. ⌜ r ≡ noBadPlace (message k .fields) (now (s .entry)) ⌝ }
+{
     match first_bad(s, k) {
-        Place::Nowhere => Answer::Done,
-        Place::At(_) => Answer::BadField,
+        Place::Nowhere => true,
+        Place::At(_) => false,
     }
 }
 

@@ -1,52 +1,51 @@
 -- A run of puts, a field each, in the layout's order. Assumes nothing.
 use mathlib.Core.Path.{refl}
-use borrow.Author.Needs.{needs}
 use lib.Dec.{lit<, lit≤}
 use Rattle.wire.specs.Layout.{wellLaid, unbroken}
 use Rattle.wire.specs.Messages.{enterOrder}
-use Rattle.wire.proofs.Runs.{ran}
+use Rattle.wire.proofs.Runs.{_then_, ends, ran}
 use Rattle.inbound.specs.Inbound.{enterOrderBytes, enterOrderValues}
 use Rattle.inbound.proofs.enter_order.spell_enter_order.Statement.{statement}
 use Rattle.inbound.proofs.enter_order.spell_enter_order.Tie as tie
 
 put-letter-requires : tie.Need-put-letter-requires
-put-letter-requires c κs = search needs
+put-letter-requires c κs = lit< tt
 
 put-token-requires : tie.Need-put-token-requires
-put-token-requires c κs = search needs
+put-token-requires c κs = lit≤ tt
 
 put-letter-requires-2 : tie.Need-put-letter-requires-2
-put-letter-requires-2 c κs = search needs
+put-letter-requires-2 c κs = lit< tt
 
 put-integer-requires : tie.Need-put-integer-requires
-put-integer-requires c κs = search needs
+put-integer-requires c κs = lit≤ tt
 
 put-stock-requires : tie.Need-put-stock-requires
-put-stock-requires c κs = search needs
+put-stock-requires c κs = lit≤ tt
 
 put-integer-requires-2 : tie.Need-put-integer-requires-2
-put-integer-requires-2 c κs = search needs
+put-integer-requires-2 c κs = lit≤ tt
 
 put-integer-requires-3 : tie.Need-put-integer-requires-3
-put-integer-requires-3 c κs = search needs
+put-integer-requires-3 c κs = lit≤ tt
 
 put-firm-requires : tie.Need-put-firm-requires
-put-firm-requires c κs = search needs
+put-firm-requires c κs = lit≤ tt
 
 put-letter-requires-3 : tie.Need-put-letter-requires-3
-put-letter-requires-3 c κs = search needs
+put-letter-requires-3 c κs = lit< tt
 
 put-letter-requires-4 : tie.Need-put-letter-requires-4
-put-letter-requires-4 c κs = search needs
+put-letter-requires-4 c κs = lit< tt
 
 put-letter-requires-5 : tie.Need-put-letter-requires-5
-put-letter-requires-5 c κs = search needs
+put-letter-requires-5 c κs = lit< tt
 
 put-integer-requires-4 : tie.Need-put-integer-requires-4
-put-integer-requires-4 c κs = search needs
+put-integer-requires-4 c κs = lit≤ tt
 
 put-letter-requires-6 : tie.Need-put-letter-requires-6
-put-letter-requires-6 c κs = search needs
+put-letter-requires-6 c κs = lit< tt
 
 returns : tie.Need-returns
 unfolding enterOrderBytes wellLaid unbroken
@@ -66,7 +65,10 @@ returns c =
     let letter = token .before .before in
     let m = letter .before .before .before .before .before .args .m in
     ran enterOrder refl (lit< tt) (lit≤ tt) (enterOrderValues m) _ _ (letter .put-letter .ensures)
-    (_, (token .put-token .ensures, (_, (side .put-letter2 .ensures, (_, (shares .put-integer .ensures, (_, (stock .put-stock .ensures, (_, (price .put-integer2 .ensures, (_, (time .put-integer3 .ensures, (_, (firm .put-firm .ensures, (_, (display .put-letter3 .ensures, (_, (capacity .put-letter4 .ensures, (_, (sweep .put-letter5 .ensures, (_, (minimum .put-integer4 .ensures, (_, (cross .put-letter6 .ensures, refl))))))))))))))))))))))))
+    (token .put-token .ensures then side .put-letter2 .ensures then shares .put-integer .ensures
+    then stock .put-stock .ensures then price .put-integer2 .ensures then time .put-integer3 .ensures
+    then firm .put-firm .ensures then display .put-letter3 .ensures then capacity .put-letter4 .ensures
+    then sweep .put-letter5 .ensures then minimum .put-integer4 .ensures then cross .put-letter6 .ensures then ends)
 
 pub spell-enter-order-spec : {M : Type 1} → statement M
 spell-enter-order-spec =

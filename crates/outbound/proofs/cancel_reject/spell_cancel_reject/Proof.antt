@@ -1,22 +1,21 @@
 -- A run of puts, a field each, in the layout's order. Assumes nothing.
 use mathlib.Core.Path.{refl}
-use borrow.Author.Needs.{needs}
 use lib.Dec.{lit<, lit≤}
 use Rattle.wire.specs.Layout.{wellLaid, unbroken}
 use Rattle.wire.specs.Messages.{cancelReject}
-use Rattle.wire.proofs.Runs.{ran}
+use Rattle.wire.proofs.Runs.{_then_, ends, ran}
 use Rattle.outbound.specs.Outbound.{cancelRejectBytes, cancelRejectValues}
 use Rattle.outbound.proofs.cancel_reject.spell_cancel_reject.Statement.{statement}
 use Rattle.outbound.proofs.cancel_reject.spell_cancel_reject.Tie as tie
 
 put-letter-requires : tie.Need-put-letter-requires
-put-letter-requires c κs = search needs
+put-letter-requires c κs = lit< tt
 
 put-long-requires : tie.Need-put-long-requires
-put-long-requires c κs = search needs
+put-long-requires c κs = lit≤ tt
 
 put-token-requires : tie.Need-put-token-requires
-put-token-requires c κs = search needs
+put-token-requires c κs = lit≤ tt
 
 returns : tie.Need-returns
 unfolding cancelRejectBytes wellLaid unbroken
@@ -26,7 +25,7 @@ returns c =
     let letter = stamp .before .before in
     let m = letter .before .before .before .args .m in
     ran cancelReject refl (lit< tt) (lit≤ tt) (cancelRejectValues m) _ _ (letter .put-letter .ensures)
-    (_, (stamp .put-long .ensures, (_, (token .put-token .ensures, refl))))
+    (stamp .put-long .ensures then token .put-token .ensures then ends)
 
 pub spell-cancel-reject-spec : {M : Type 1} → statement M
 spell-cancel-reject-spec =

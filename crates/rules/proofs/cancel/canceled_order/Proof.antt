@@ -1,5 +1,4 @@
 -- The decrement leaves at least what is gone, so the cut order is within its counts. Assumes nothing.
-use mathlib.Core.Path.{_≡_, ap, _∙_}
 use native.Mathlib.Omega.{arith}
 use Rattle.table.specs.Counts.{gone, withLiable, cut}
 use Rattle.rules.specs.Cancel.{decrement, canceledOrder}

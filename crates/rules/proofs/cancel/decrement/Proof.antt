@@ -1,5 +1,7 @@
--- The larger of the two totals is found by one test, and neither is above liable. Assumes nothing.
-use mathlib.Core.Path.{_≡_, ap, sym, _∙_}
+-- Either way the end is the larger of the two totals, and neither is above liable. Assumes nothing.
+use Prim.Native.Nat.{max}
+use mathlib.Core.Path.{_≡_, ap}
+use mathlib.Core.Logic.{⊎-elim}
 use native.Mathlib.Omega.{arith}
 use Rattle.wire.specs.Shares.{removed}
 use Rattle.wire.specs.declared.shares.Total.{Total}
@@ -9,23 +11,23 @@ use borrow.Author.Needs.{needs}
 use Rattle.rules.proofs.cancel.decrement.Statement.{statement}
 use Rattle.rules.proofs.cancel.decrement.Tie as tie
 
+larger-end : (c : tie.Joined1)
+    → c .if1 .end ≡ max (c .before .before .before .before .args .size .0) (gone (c .before .before .before .before .args .o .shares) .0)
+unfolding gone
+larger-end c =
+    let floor = ap (λ (t : Total). t .0) (c .before .before .before .gone .ensures) in
+    ⊎-elim (λ t. omega (arith, t .0 .taken, t .1)) (λ e. omega (arith, e .0 .left, e .1)) (c .if1 .came)
+
 gone-requires : tie.Need-gone-requires
 gone-requires c κs = search needs
 
-sub-t5 : tie.Need-sub-t5
+sub-by : tie.Need-sub-by
 unfolding gone
-sub-t5 c = rw (c .before .before .before .before .before .gone .ensures) (omega arith)
+sub-by c = omega (arith, larger-end (c .before .before))
 
 returns : tie.Need-returns
 unfolding decrement gone
-returns c = ap removed (let floor = ap (λ (t : Total). t .0) (c .before .before .before .before .before .gone .ensures) in omega arith)
-
-sub-t6 : tie.Need-sub-t6
-sub-t6 c = search needs
-
-returns-2 : tie.Need-returns-2
-unfolding decrement gone
-returns-2 c = ap removed (let floor = ap (λ (t : Total). t .0) (c .before .before .before .before .before .gone .ensures) in omega arith)
+returns c = ap removed (omega (arith, larger-end (c .before .before)))
 
 pub decrement-spec : {M : Type 1} → statement M
-decrement-spec = tie.close (tie.spec gone-requires sub-t5 returns sub-t6 returns-2)
+decrement-spec = tie.close (tie.spec gone-requires sub-by returns)

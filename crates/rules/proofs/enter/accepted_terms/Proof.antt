@@ -1,9 +1,8 @@
 -- The smaller of the two times is found by one test. Assumes nothing.
-use mathlib.Core.Path.{_≡_, ap}
+use mathlib.Core.Path.{_≡_}
 use native.Mathlib.Omega.{arith}
-use Prim.Native.Nat.{ℕ, min}
+use Prim.Native.Nat.{min}
 use Rattle.rules.specs.Limits.{longestTime}
-use Rattle.rules.specs.Types.{Terms}
 use Rattle.rules.specs.Enter.{acceptedTerms}
 use Rattle.rules.proofs.enter.accepted_terms.Statement.{statement}
 use Rattle.rules.proofs.enter.accepted_terms.Tie as tie

@@ -1,5 +1,5 @@
 -- A price is made exactly where it is good. Assumes nothing.
-use mathlib.Core.Path.{_≡_, sym, _∙_}
+use mathlib.Core.Path.{sym, _∙_}
 use Rattle.wire.specs.Price.{goodPrice, pricedOf}
 use Rattle.rules.specs.Enter.{badPrice}
 use Rattle.rules.proofs.Moments.{made-good, made-bad}

@@ -1,5 +1,5 @@
 -- A used token is ignored; otherwise the fault decides. Assumes nothing.
-use mathlib.Core.Path.{_≡_, sym, _∙_}
+use mathlib.Core.Path.{sym, _∙_}
 use Rattle.octets.proofs.Guards.{answered}
 use Rattle.rules.specs.Enter.{enterOutcome, enterRule}
 use borrow.Author.Needs.{needs}

@@ -1,10 +1,8 @@
 -- The first two faults decide alone, since without them there is a new open; the gathered tests are the rest of the definition's. Assumes nothing.
-use mathlib.Core.Path.{_≡_, subst}
-use native.Mathlib.Omega.{arith}
+use mathlib.Core.Path.{subst}
 use Prim.Native.Nat.{_<_, _≤_}
 use borrow.Author.Tests.{le-ltb, lt-ltb}
 use Rattle.octets.proofs.Guards.{answered}
-use Rattle.table.specs.Counts.{gone}
 use Rattle.rules.specs.Types.{Total}
 use Rattle.rules.specs.Replace.{badDetails}
 use borrow.Author.Needs.{needs}

@@ -1,3 +1,4 @@
+-- What is cut is at most liable, so the difference is one.
 use Rattle.table.specs.Counts.{cut}
 use borrow.Author.Needs.{needs}
 use Rattle.table.proofs.counts.cut.Statement.{statement}

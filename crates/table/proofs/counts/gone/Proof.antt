@@ -1,3 +1,4 @@
+-- The sum is at most liable, so it fits.
 use mathlib.Core.Path.{refl}
 use Rattle.table.specs.Counts.{gone}
 use borrow.Author.Needs.{needs}

@@ -1,3 +1,4 @@
+-- Field by field.
 use mathlib.Core.Path.{refl}
 use Rattle.table.specs.Counts.{newCounts}
 use Rattle.table.proofs.counts.new_counts.Statement.{statement}

@@ -1,3 +1,4 @@
+-- What is gone is at most liable, so the difference is one.
 use mathlib.Core.Path.{ap}
 use Rattle.wire.specs.Shares.{_less_}
 use Rattle.wire.specs.declared.shares.Total.{Total}

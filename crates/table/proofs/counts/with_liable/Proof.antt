@@ -1,3 +1,4 @@
+-- Field by field.
 use mathlib.Core.Path.{refl}
 use Rattle.table.specs.Counts.{withLiable}
 use Rattle.table.proofs.counts.with_liable.Statement.{statement}

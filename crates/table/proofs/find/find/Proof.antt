@@ -1,3 +1,4 @@
+-- The search goes over the used records.
 use mathlib.Core.Path.{ap, _∙_}
 use Prim.Native.Nat.{ℕ}
 use Rattle.table.specs.Table.{placeFrom, placeOf}

@@ -1,3 +1,4 @@
+-- A place below the used records has an order, any other has none.
 use mathlib.Core.Path.{sym, _∙_}
 use Prim.Native.Nat.{_≤_, _<_}
 use borrow.Author.Tests.{lt-ltb, le-ltb}

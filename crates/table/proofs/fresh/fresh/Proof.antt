@@ -1,12 +1,12 @@
 -- Both refusals leave the table; else the header is stored over zeros.
-use mathlib.Core.Path.{_≡_, sym, ap, _∙_}
+use mathlib.Core.Path.{sym, ap, _∙_}
 use Prim.Native.Nat.{ℕ}
 use native.Mathlib.Omega.{arith}
 use lib.ListN.{length, length-replicate}
 use Rattle.octets.proofs.Below.{both}
 use Rattle.table.specs.Table.{storeHeader}
 use Rattle.table.specs.Fresh.{freshHeader}
-use Rattle.table.proofs.Freshness.{numbersGood, settings-tests, count-good, fresh-done, fresh-bad-settings, fresh-bad-size}
+use Rattle.table.proofs.Freshness.{numbersGood, settings-tests, most-firms, fresh-done, fresh-bad-settings, fresh-bad-size}
 use Rattle.table.proofs.Soundness.{of-size}
 use borrow.Author.Needs.{needs}
 use Rattle.table.proofs.fresh.fresh.Statement.{statement}
@@ -25,7 +25,7 @@ fresh-header-requires : tie.Need-fresh-header-requires
 fresh-header-requires c κs =
     let s = c .before .before .before .before .before .before .before .before .before .before .before .args .settings in
     let e = sym (c .before .before .before .before .before .before .settings-good .ensures) ∙ c .before .before .before .before .before .if2 .taken in
-    count-good s (both (numbersGood s) _ (sym (settings-tests s) ∙ e) .0)
+    most-firms s (both (numbersGood s) _ (sym (settings-tests s) ∙ e) .0)
 
 store-header-requires : tie.Need-store-header-requires
 store-header-requires c κs =

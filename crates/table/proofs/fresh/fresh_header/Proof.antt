@@ -1,3 +1,4 @@
+-- Field by field; the firms are those listed.
 use Rattle.table.specs.Fresh.{freshHeader}
 use borrow.Author.Needs.{needs}
 use Rattle.table.proofs.fresh.fresh_header.Statement.{statement}

@@ -1,3 +1,4 @@
+-- The codes up to the count are copied over zeros.
 use mathlib.Core.Path.{_∙_}
 use native.Mathlib.Omega.{arith}
 use Rattle.table.proofs.Freshness.{listed-copied}

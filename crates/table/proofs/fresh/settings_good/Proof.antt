@@ -1,7 +1,8 @@
+-- The numbers are judged first, and say that the count is one that eight places hold.
 use mathlib.Core.Path.{sym, ap, _∙_}
 use mathlib.Core.Bool.{Bool, _&&_}
 use Rattle.table.specs.Header.{firmsShaped}
-use Rattle.table.proofs.Freshness.{count-good, settings-tests}
+use Rattle.table.proofs.Freshness.{most-firms, settings-tests}
 use borrow.Author.Needs.{needs}
 use Rattle.table.proofs.fresh.settings_good.Statement.{statement}
 use Rattle.table.proofs.fresh.settings_good.Tie as tie
@@ -10,7 +11,7 @@ cast-count : tie.Need-cast-count
 cast-count c = search needs
 
 firms-shaped-requires : tie.Need-firms-shaped-requires
-firms-shaped-requires c κs = count-good (c .before .before .before .args .settings) (c .before .if1 .taken)
+firms-shaped-requires c κs = most-firms (c .before .before .before .args .settings) (c .before .if1 .taken)
 
 returns : tie.Need-returns
 returns c =

@@ -1,3 +1,4 @@
+-- The k-th four bytes.
 use Rattle.table.specs.Header.{firmAt}
 use borrow.Author.Needs.{needs}
 use Rattle.table.proofs.header.firm_at.Statement.{statement}

@@ -1,3 +1,4 @@
+-- Each field is read at its layout's offset.
 use Rattle.table.specs.Header.{headerOf}
 use borrow.Author.Needs.{needs}
 use Rattle.table.proofs.header.header_of.Statement.{statement}

@@ -1,3 +1,4 @@
+-- The test is the definition.
 use mathlib.Core.Path.{refl}
 use Rattle.table.specs.Header.{isOpenDay}
 use Rattle.table.proofs.header.is_open_day.Statement.{statement}

@@ -1,3 +1,4 @@
+-- A blank firm is the first of the list, any other is itself.
 use mathlib.Core.Path.{_≡_, sym, _∙_}
 use mathlib.Core.Bool.{true, false}
 use Rattle.table.specs.Header.{isBlank, meantFirm}

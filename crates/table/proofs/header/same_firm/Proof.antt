@@ -1,3 +1,4 @@
+-- Four bytes each, compared one by one.
 use mathlib.Core.Path.{_≡_, sym, ap, _∙_}
 use Prim.Native.Nat.{ℕ}
 use native.Mathlib.Omega.{arith}

@@ -1,6 +1,6 @@
+-- A bit that is set is there to be taken away.
 use mathlib.Core.Path.{_≡_, sym, _∙_}
 use mathlib.Core.Bool.{true, false}
-use native.Mathlib.Omega.{arith}
 use Rattle.table.proofs.Flags.{clear-within}
 use Rattle.table.specs.Order.{flagged, clear}
 use Rattle.table.proofs.order.clear.Statement.{statement}

@@ -1,3 +1,4 @@
+-- One of the three bits is not 0, so it divides.
 use native.Mathlib.Omega.{arith}
 use Rattle.table.proofs.Flags.{bit-positive}
 use borrow.Author.Needs.{needs}

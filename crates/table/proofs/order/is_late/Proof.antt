@@ -1,3 +1,4 @@
+-- The bit is one of the three.
 use Rattle.table.proofs.Flags.{late-bit}
 use Rattle.table.specs.Order.{isLate}
 use Rattle.table.proofs.order.is_late.Statement.{statement}

@@ -1,3 +1,4 @@
+-- The test is the definition.
 use mathlib.Core.Path.{refl}
 use Rattle.table.specs.Order.{isLive}
 use Rattle.table.proofs.order.is_live.Statement.{statement}

@@ -1,3 +1,4 @@
+-- The bit is one of the three.
 use Rattle.table.proofs.Flags.{pending-bit}
 use Rattle.table.specs.Order.{isPending}
 use Rattle.table.proofs.order.is_pending.Statement.{statement}

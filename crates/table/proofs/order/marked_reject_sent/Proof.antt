@@ -1,3 +1,4 @@
+-- Only the flags change, and of these one bit.
 use mathlib.Core.Path.{ap, _∙_}
 use Rattle.table.proofs.Flags.{reject-sent-bit}
 use Rattle.table.specs.Order.{withFlags, markedRejectSent}

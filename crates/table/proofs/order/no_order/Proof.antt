@@ -3,7 +3,6 @@ use Rattle.octets.specs.Bytes.{numberOf, numberFrom}
 use Rattle.table.specs.Counts.{newCounts}
 use Rattle.table.specs.Order.{noOrder, orderOf}
 use borrow.Author.Needs.{needs}
-use mathlib.Core.Path.{refl}
 use Rattle.octets.specs.Bytes.{numberOf, numberFrom}
 use Rattle.table.specs.Counts.{newCounts}
 use Rattle.table.specs.Order.{noOrder, orderOf}

@@ -1,3 +1,4 @@
+-- The bit is one of the three.
 use Rattle.table.proofs.Flags.{reject-sent-bit}
 use Rattle.table.specs.Order.{rejectSent}
 use Rattle.table.proofs.order.reject_sent.Statement.{statement}

@@ -1,3 +1,4 @@
+-- Field by field; its counts and details are those of no order.
 use Rattle.table.specs.Order.{rejectedOrder}
 use borrow.Author.Needs.{needs}
 use Rattle.table.proofs.order.rejected_order.Statement.{statement}

@@ -1,3 +1,4 @@
+-- A bit that is not set leaves room for itself in a byte.
 use mathlib.Core.Path.{_≡_, sym, _∙_}
 use mathlib.Core.Bool.{true, false}
 use native.Mathlib.Omega.{arith}

@@ -1,3 +1,4 @@
+-- The header is read from its own part.
 use mathlib.Core.Path.{ap, _∙_}
 use Rattle.table.specs.Header.{headerOf}
 use Rattle.table.specs.Table.{header}

@@ -1,3 +1,4 @@
+-- The order is read from its own part.
 use mathlib.Core.Path.{ap, _∙_}
 use Rattle.table.specs.Order.{orderOf}
 use Rattle.table.specs.Table.{orderAt}

@@ -1,3 +1,4 @@
+-- The part from a record's place on, as long as a record.
 use mathlib.Core.Path.{refl}
 use Prim.Native.Nat.{_+_, _*_}
 use native.Mathlib.Nat.{add-sub-cancel-left}

@@ -1,3 +1,4 @@
+-- The header is put over the first 64 bytes, which are lent whole.
 use Rattle.octets.proofs.Laws.{put-lent}
 use Rattle.table.specs.Table.{storeHeader}
 use borrow.Author.Needs.{needs}

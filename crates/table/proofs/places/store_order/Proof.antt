@@ -1,3 +1,4 @@
+-- The order is put over its record's 80 bytes, which are lent whole.
 use Prim.Native.Nat.{_+_, _*_}
 use Rattle.octets.proofs.Laws.{put-lent}
 use Rattle.table.specs.Table.{recordPlace, storeOrder}

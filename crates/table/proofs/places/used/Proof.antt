@@ -1,3 +1,4 @@
+-- One number of the header, read as the header reads it.
 use mathlib.Core.Path.{ap, _∙_}
 use Rattle.table.specs.Header.{headerOf}
 use Rattle.table.specs.Table.{header}

@@ -1,3 +1,4 @@
+-- The token is judged first; where it is not legal, nothing else matters.
 use mathlib.Core.Path.{sym, ap, _∙_}
 use mathlib.Core.Bool.{Bool, _&&_}
 use Rattle.table.specs.Order.{orderOf, stateSound, recordSound}

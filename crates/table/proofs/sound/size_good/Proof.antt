@@ -1,3 +1,4 @@
+-- Below 64 bytes there are no records, and so too few of them.
 use mathlib.Core.Path.{_≡_, refl, sym}
 use Prim.Native.Nat.{_-_}
 use native.Mathlib.Omega.{arith}

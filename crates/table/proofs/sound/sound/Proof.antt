@@ -4,7 +4,6 @@ use mathlib.Core.Bool.{true, _&&_}
 use Prim.Native.Nat.{ℕ}
 use native.Mathlib.Omega.{arith}
 use Rattle.octets.specs.Choice.{allBelow}
-use Rattle.table.specs.Limits.{headerSize}
 use Rattle.table.specs.Header.{headerSound}
 use Rattle.table.specs.Order.{recordSound}
 use Rattle.table.specs.Table.{recordsIn, sizeGood, recordBytes}

@@ -1,7 +1,10 @@
 -- Each end is a line of the writer's definition. Assumes nothing.
 use mathlib.Core.Path.{sym, _∙_}
+use Prim.Native.Nat.{_≤_, _<_}
 use native.Mathlib.Nat.{sub-zero}
 use native.Mathlib.Omega.{arith}
+use lib.ListN.{length, length-take}
+use borrow.Author.Tests.{ltb-true, ltb-false, not-true, not-false}
 use borrow.Author.Needs.{needs}
 use Rattle.wire.specs.Messages.{message}
 use Rattle.wire.proofs.Verdicts.{not-legal, no-room, sent}
@@ -20,29 +23,24 @@ part-bytes-start c = search needs
 part-bytes-end : tie.Need-part-bytes-end
 part-bytes-end c = search needs
 
-first-bad-requires : tie.Need-first-bad-requires
-first-bad-requires c κs = search needs
-
-enum-told : tie.Need-enum-told
-enum-told c = search needs
-
-enum-told-2 : tie.Need-enum-told-2
-enum-told-2 c = search needs
+is-clean-requires : tie.Need-is-clean-requires
+is-clean-requires c κs = search needs
 
 returns : tie.Need-returns
 returns c =
-    let f = c .before .before .before in
+    let f = c .before in
     let a = f .before .before .before .before .before .args in
-    no-room (message (a .k)) (a .spelled .now) (a .buffer .now) _ (sub-zero _ ∙ f .before .before .size .ensures) (sym (f .first-bad .ensures) ∙ c .before .enum-told2 .given .1) (omega (arith, c .if1 .taken, f .before .before .size .ensures))
-
-put-bytes-requires : tie.Need-put-bytes-requires
-put-bytes-requires c κs = search needs
+    not-legal (message (a .k)) (a .spelled .now) (a .buffer .now) _ (sub-zero _ ∙ f .before .before .size .ensures) (sym (f .is-clean .ensures) ∙ not-true _ (c .if1 .taken))
 
 returns-2 : tie.Need-returns-2
 returns-2 c =
     let f = c .before .before in
     let a = f .before .before .before .before .before .args in
-    not-legal (message (a .k)) (a .spelled .now) (a .buffer .now) _ (sub-zero _ ∙ f .before .before .size .ensures) (c .enum-told .given .0 .0) (sym (f .first-bad .ensures) ∙ c .enum-told .given .1)
+    let room : length (a .buffer .now) < message (a .k) .size = omega (arith, ltb-true, c .if2 .taken, f .before .before .size .ensures) in
+    no-room (message (a .k)) (a .spelled .now) (a .buffer .now) _ (sub-zero _ ∙ f .before .before .size .ensures) (sym (f .is-clean .ensures) ∙ not-false _ (c .before .if1 .left)) room
+
+put-bytes-requires : tie.Need-put-bytes-requires
+put-bytes-requires c κs = simp length-take (omega (arith, ltb-false, c .before .if2 .left))
 
 same-length : tie.Need-same-length
 same-length c = search needs
@@ -50,10 +48,11 @@ same-length c = search needs
 returns-3 : tie.Need-returns-3
 returns-3 c =
     let r = c .before .before .before .before in
-    let f = r .before .before .before in
+    let f = r .before .before in
     let s = f .before .before .before .before .before in
     let a = s .args in
-    sent (message (a .k)) (a .spelled .now) (a .buffer .now) _ (sub-zero _ ∙ f .before .before .size .ensures) (sym (f .first-bad .ensures) ∙ r .before .enum-told2 .given .1) (omega (arith, r .if1 .left, f .before .before .size .ensures)) (s .pre .1) (c .before .before .put-bytes .ensures)
+    let room : message (a .k) .size ≤ length (a .buffer .now) = omega (arith, ltb-false, r .if2 .left, f .before .before .size .ensures) in
+    sent (message (a .k)) (a .spelled .now) (a .buffer .now) _ (sub-zero _ ∙ f .before .before .size .ensures) (sym (f .is-clean .ensures) ∙ not-false _ (r .before .if1 .left)) room (s .pre .1) (c .before .before .put-bytes .ensures)
 
 pub send-spec : {M : Type 1} → statement M
 send-spec =
@@ -63,11 +62,9 @@ send-spec =
     sub-bytes
     part-bytes-start
     part-bytes-end
-    first-bad-requires
-    enum-told
-    enum-told-2
+    is-clean-requires
     returns
-    put-bytes-requires
     returns-2
+    put-bytes-requires
     same-length
     returns-3)

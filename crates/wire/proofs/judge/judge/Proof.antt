@@ -29,34 +29,27 @@ letter-of-requires c κs = search needs
 returns-2 : tie.Need-returns-2
 returns-2 c =
     let a = c .before .before .before .before .before .before .args in
-    let long = c .before .before .before .if1 .left ∙ c .before .before .before .before .size .ensures in
-    sym (wrong-type (message (a .k)) (a .s .now) long (λ e. c .if2 .taken (e ∙ sym (c .before .letter-of .ensures))))
+    let whole = c .before .before .before .if1 .left ∙ c .before .before .before .before .size .ensures in
+    sym (wrong-type (message (a .k)) (a .s .now) whole (λ e. c .if2 .taken (e ∙ sym (c .before .letter-of .ensures))))
 
-first-bad-requires : tie.Need-first-bad-requires
-first-bad-requires c κs = search needs
-
-enum-told : tie.Need-enum-told
-enum-told c = search needs
-
-enum-told-2 : tie.Need-enum-told-2
-enum-told-2 c = search needs
+is-clean-requires : tie.Need-is-clean-requires
+is-clean-requires c κs = search needs
 
 returns-3 : tie.Need-returns-3
 returns-3 c =
-    let f = c .before .before in
+    let f = c .before in
     let a = f .before .before .before .before .before .before .before .args in
-    let long = f .before .before .before .before .if1 .left ∙ f .before .before .before .before .before .size .ensures in
+    let whole = f .before .before .before .before .if1 .left ∙ f .before .before .before .before .before .size .ensures in
     let typed = f .before .if2 .left ∙ f .before .before .letter-of .ensures in
-    sym (legal (message (a .k)) (a .s .now) long typed (sym (f .first-bad .ensures) ∙ c .enum-told .given .1))
+    sym (legal (message (a .k)) (a .s .now) whole typed (sym (f .is-clean .ensures) ∙ c .if3 .taken))
 
 returns-4 : tie.Need-returns-4
 returns-4 c =
-    let f = c .before .before in
+    let f = c .before in
     let a = f .before .before .before .before .before .before .before .args in
-    let long = f .before .before .before .before .if1 .left ∙ f .before .before .before .before .before .size .ensures in
+    let whole = f .before .before .before .before .if1 .left ∙ f .before .before .before .before .before .size .ensures in
     let typed = f .before .if2 .left ∙ f .before .before .letter-of .ensures in
-    let bad = c .enum-told2 .given in
-    sym (bad-field (message (a .k)) (a .s .now) long typed (bad .0 .0) (sym (f .first-bad .ensures) ∙ bad .1))
+    sym (bad-field (message (a .k)) (a .s .now) whole typed (sym (f .is-clean .ensures) ∙ c .if3 .left))
 
 pub judge-spec : {M : Type 1} → statement M
 judge-spec =
@@ -67,8 +60,6 @@ judge-spec =
     shared-slice-read-if2
     letter-of-requires
     returns-2
-    first-bad-requires
-    enum-told
-    enum-told-2
+    is-clean-requires
     returns-3
     returns-4)

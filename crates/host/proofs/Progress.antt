@@ -1,0 +1,125 @@
+-- An entry offered to an empty outbox is never blocked, and so a driver that empties the outbox after each block gets through any list.
+-- Assumes nothing.
+use mathlib.Core.Path.{_≡_, refl, sym, ap, _∙_, subst}
+use mathlib.Core.Bool.{Bool, true, false, not, false≢true}
+use mathlib.Core.List.{List, [], _∷_}
+use Prim.Native.Nat.{ℕ, _-_, _≤_, _<_}
+use native.Mathlib.Nat.{le-refl, sub-self}
+use native.Mathlib.Omega.{arith}
+use borrow.Author.Tests.{le-ltb, eqb-true}
+use lib.Dec.{eqb}
+use lib.ListN.{length}
+use Rattle.octets.specs.Choice.{pick}
+use Rattle.answers.specs.Answer.{answerNumber, isDone}
+use Rattle.answers.proofs.Laws.{is-done}
+use Rattle.table.specs.Table.{sound}
+use Rattle.tape.specs.Entries.{stampOf}
+use Rattle.rules.specs.Sent.{message}
+use Rattle.outbox.specs.Limits.{shortestRing}
+use Rattle.outbox.specs.Outbox.{ringGood, freeBytes, releaseMarks, marksWithout}
+use Rattle.outbox.proofs.Right.{right}
+use Rattle.outbox.proofs.Board.{held-is-enough, release-keeps-good}
+use Rattle.outbox.proofs.Guards.{release-marks-done}
+use Rattle.host.specs.Types.{Answer, Blocked, Done, Decision, Marks}
+use Rattle.host.specs.Step.{World, Outcome, comesTo, noRoom, step, tableAfter, worldAfter}
+use Rattle.host.specs.Day.{Action, offerNext, release, isBlocked, withMarks, run, offered, emptied, patient}
+use Rattle.host.proofs.Steps.{stepBy, step-by, comes, only-done-changes}
+use Rattle.host.proofs.Day.{Ready, ring-after}
+use Rattle.host.proofs.Sounds.{keeps, P, K}
+use Rattle.host.proofs.Unblocked.{unblocked}
+use Rattle.rules.specs.Sent.{AtMostOne, silent, told}
+use Rattle.rules.proofs.Told.{at-most-one}
+
+-- every message fits the shortest ring
+pub short : (t s : List ℕ) → sound t ≡ true → isDone (comesTo t s .answer) ≡ true → length (message (stampOf s) (comesTo t s .plan)) ≤ shortestRing
+short t s ok done =
+    let k = K t s ok done in
+    subst (λ (d : Decision). length (message (stampOf s) (d .plan)) ≤ shortestRing) (sym (P t s ok done .is))
+    (at-most (at-most-one (k .1 .1) (stampOf s) (k .1 .0 .long)))
+  where
+    at-most : {m : List ℕ} → AtMostOne m → length m ≤ shortestRing
+    at-most (silent e) = omega (arith, ap length e)
+    at-most (told k lo hi v e size most) = most
+
+-- ---- an empty outbox
+
+module _ (w : World) (s : List ℕ) (ok : Ready w) (none : w .marks .held ≡ 0) where
+  room : isDone (comes w s .answer) ≡ true → noRoom w s (comes w s .plan) ≡ false
+  unfolding noRoom freeBytes
+  room done =
+      let r = right (length (w .ring)) (w .marks) (ok .ring) in
+      let h : length (message (stampOf s) (comes w s .plan)) ≤ length (w .ring) - w .marks .held =
+      omega (arith, short (w .table) s (ok .table) done, r .short, none) in
+      le-ltb _ _ h
+
+  by : (done full : Bool) → isDone (comes w s .answer) ≡ done → noRoom w s (comes w s .plan) ≡ full → isBlocked (stepBy w s (comes w s) true true done full .answer) ≡ false
+  unfolding isBlocked
+  by false full e f = unblocked (w .table) s
+  by true true e f = absurd (false≢true (sym (room e) ∙ f))
+  by true false e f = refl
+
+  pub never-blocked : isBlocked (step w s .answer) ≡ false
+  never-blocked =
+      ap (λ (o : Outcome). isBlocked (o .answer)) (step-by w s)
+      ∙ rw (ok .table, ok .ring) (by (isDone (comes w s .answer)) (noRoom w s (comes w s .plan)) refl refl)
+
+-- ---- what a step leaves behind, ready for the next
+
+-- by what was judged on the way
+stays : (w : World) (s : List ℕ) (ok : Ready w) (done full : Bool) → isDone (comes w s .answer) ≡ done → noRoom w s (comes w s .plan) ≡ full
+    → Ready (stepBy w s (comes w s) true true done full .world)
+unfolding worldAfter
+stays w s ok false full e f = ok
+stays w s ok true true e f = ok
+stays w s ok true false e f =
+    record { table = keeps (w .table) s (ok .table) e; ring = ring-after w s (comes w s .plan) (ok .ring) f }
+
+-- a sound table stays sound, and right marks stay right
+pub stays-ready : (w : World) (s : List ℕ) → Ready w → Ready (step w s .world)
+stays-ready w s ok =
+    subst (λ (o : Outcome). Ready (o .world)) (sym (step-by w s))
+    (rw (ok .table, ok .ring) (stays w s ok (isDone (comes w s .answer)) (noRoom w s (comes w s .plan)) refl refl))
+
+-- a blocked entry leaves everything as it was
+pub blocked-stays : (w : World) (s : List ℕ) → isBlocked (step w s .answer) ≡ true → step w s .world ≡ w
+unfolding isBlocked isDone
+blocked-stays w s b =
+    let e = eqb-true (answerNumber (step w s .answer)) (answerNumber Blocked) b in
+    only-done-changes w s (ap (λ (n : ℕ). eqb n 0) e)
+
+-- ---- a driver that empties the outbox after each block
+
+module _ (w : World) (ok : Ready w) where
+  ready-emptied : Ready (emptied w)
+  unfolding emptied
+  ready-emptied =
+      record {
+        table = ok .table;
+        ring = release-keeps-good (length (w .ring)) (w .marks) (w .marks .held) (held-is-enough (length (w .ring)) (w .marks) (w .marks .held) (ok .ring) (le-refl (w .marks .held)));
+      }
+
+  none-held : emptied w .marks .held ≡ 0
+  unfolding emptied marksWithout
+  none-held =
+      ap (λ (m : Marks). m .held)
+      (release-marks-done (length (w .ring)) (w .marks) (w .marks .held)
+      (held-is-enough (length (w .ring)) (w .marks) (w .marks .held) (ok .ring) (le-refl (w .marks .held))))
+      ∙ sub-self (w .marks .held)
+
+-- it gets through any list: a schedule exists
+pub patient-through : (ss : List (List ℕ)) (w : World) → Ready w → run w ss (patient w ss) .left ≡ []
+unfolding patient run emptied
+patient-through [] w ok = refl
+patient-through (s ∷ ss) w ok =
+    by (isBlocked (step w s .answer)) refl (patient-through ss (step w s .world) (stays-ready w s ok))
+    (patient-through ss (step (emptied w) s .world) (stays-ready (emptied w) s (ready-emptied w ok)))
+  where
+    again : isBlocked (step w s .answer) ≡ true → run (step (emptied w) s .world) ss (patient (step (emptied w) s .world) ss) .left ≡ []
+        → run (emptied w) (s ∷ ss) (offerNext ∷ patient (step (emptied w) s .world) ss) .left ≡ []
+    again e later = rw (never-blocked (emptied w) s (ready-emptied w ok) (none-held w ok)) later
+
+    by : (b : Bool) → isBlocked (step w s .answer) ≡ b → run (step w s .world) ss (patient (step w s .world) ss) .left ≡ []
+        → run (step (emptied w) s .world) ss (patient (step (emptied w) s .world) ss) .left ≡ []
+        → run w (s ∷ ss) (pick b (offerNext ∷ release (w .marks .held) ∷ offerNext ∷ patient (step (emptied w) s .world) ss) (offerNext ∷ patient (step w s .world) ss)) .left ≡ []
+    by false e now later = rw e now
+    by true e now later = rw (e, blocked-stays w s e) (again e later)

@@ -1,0 +1,5 @@
+pub mod Types
+pub mod Taken
+pub mod Priority
+pub mod Cross
+pub mod Day

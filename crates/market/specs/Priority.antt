@@ -1,0 +1,29 @@
+-- p: an order gets another price, and with it another reference (What each entry does, p; Answer numbers 5, 7).
+use mathlib.Core.Bool.{not}
+use Rattle.octets.specs.Choice.{firstOf_, _⇒_⨾_}
+use Rattle.wire.specs.Letters.{anonymous}
+use Rattle.table.specs.Order.{isLive, withDetails}
+use Rattle.table.specs.Header.{isOpenDay}
+use Rattle.rules.specs.Plan.{notLive, wrongMoment, renumbering}
+use Rattle.market.specs.Types.{PriorityUpdate, Decision, Order, Header, Priority}
+
+-- price stored, display Y, new reference
+unfoldable pub prioritisedOrder : Header → Order → Priority → Order
+prioritisedOrder h o e =
+    let d = o .details in
+    let t = d .terms in
+    withDetails o (record {
+      kept = d .kept;
+      terms = record { price = e .price; time = t .time; display = anonymous; sweep = t .sweep; minimum = t .minimum };
+      reference = h .reference;
+      previous = d .previous;
+      spare = d .spare;
+    })
+
+-- Priority Update
+unfoldable pub priorityRule : Header → Order → Priority → Decision
+priorityRule h o e =
+    firstOf
+    not (isLive o) ⇒ notLive
+    ⨾ not (isOpenDay h) ⇒ wrongMoment
+    ⨾ renumbering (prioritisedOrder h o e) PriorityUpdate

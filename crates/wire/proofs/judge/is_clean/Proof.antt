@@ -1,0 +1,31 @@
+-- Each arm is a line of the definition. Assumes nothing.
+use mathlib.Core.Path.{sym, _∙_}
+use borrow.Author.Needs.{needs}
+use Rattle.wire.specs.Messages.{message}
+use Rattle.wire.proofs.Verdicts.{clean, unclean}
+use Rattle.wire.proofs.judge.is_clean.Statement.{statement}
+use Rattle.wire.proofs.judge.is_clean.Tie as tie
+
+first-bad-requires : tie.Need-first-bad-requires
+first-bad-requires c κs = search needs
+
+enum-told : tie.Need-enum-told
+enum-told c = search needs
+
+enum-told-2 : tie.Need-enum-told-2
+enum-told-2 c = search needs
+
+returns : tie.Need-returns
+returns c =
+    let f = c .before .before in
+    let a = f .before .before .args in
+    sym (clean (message (a .k) .fields) (a .s .now) (sym (f .first-bad .ensures) ∙ c .enum-told .given .1))
+
+returns-2 : tie.Need-returns-2
+returns-2 c =
+    let f = c .before .before in
+    let a = f .before .before .args in
+    sym (unclean (message (a .k) .fields) (a .s .now) (sym (f .first-bad .ensures) ∙ c .enum-told2 .given .1))
+
+pub is-clean-spec : {M : Type 1} → statement M
+is-clean-spec = tie.close (tie.spec first-bad-requires enum-told enum-told-2 returns returns-2)

@@ -1,0 +1,131 @@
+//! A table judged and searched as a Rust programmer would by hand: what the proved step is held to.
+
+const HEADER_LEN: usize = 64;
+const RECORD_LEN: usize = 80;
+const MOST_RECORDS: usize = 800;
+const MOST_SHARES: u64 = 999_999;
+const HIGHEST_THRESHOLD: u32 = 1_000_000;
+const LAST_REFERENCE: u64 = 1_000_000_000_000_000_000;
+const DAY_NANOS: u64 = 86_400_000_000_000;
+
+type Header = [u8; HEADER_LEN];
+type Record = [u8; RECORD_LEN];
+
+/// Whether the table is sound.
+pub fn judge(table: &[u8]) -> bool {
+    let Some((header, records)) = split(table) else {
+        return false;
+    };
+    let used = number(header, 4) as usize;
+    (1..=MOST_RECORDS).contains(&records.len())
+        && header_sound(header)
+        && records
+            .get(..used)
+            .is_some_and(|used| used.iter().all(record_sound))
+}
+
+/// The first used record of this token.
+pub fn find(table: &[u8], token: &[u8; 14]) -> Option<usize> {
+    let (header, records) = split(table)?;
+    let used = records.get(..number(header, 4) as usize)?;
+    used.iter().position(|record| record[1..15] == *token)
+}
+
+/// The header and the records, where the length is a header's and some whole records'.
+fn split(table: &[u8]) -> Option<(&Header, &[Record])> {
+    let (header, records) = table.split_first_chunk()?;
+    match records.as_chunks() {
+        (records, []) => Some((header, records)),
+        _ => None,
+    }
+}
+
+fn header_sound(header: &Header) -> bool {
+    let (firms, _) = header[28..60].as_chunks::<4>();
+    let count = usize::from(header[1]);
+    header[0] <= 2
+        && (1..=firms.len()).contains(&count)
+        && header[2..4] == [0; 2]
+        && long_number(header, 8) < DAY_NANOS
+        && (1..=LAST_REFERENCE).contains(&long_number(header, 16))
+        && (1..=HIGHEST_THRESHOLD).contains(&number(header, 24))
+        && firms[..count].iter().all(firm_shaped)
+        && firms[count..].iter().all(|place| *place == [0; 4])
+        && header[60..64] == [0; 4]
+}
+
+/// 1 to 4 capitals, then spaces.
+fn firm_shaped(firm: &[u8; 4]) -> bool {
+    let code = firm.trim_ascii_end();
+    // Only spaces may follow the capitals, and trimming takes other white space too.
+    !code.is_empty()
+        && code.iter().all(u8::is_ascii_uppercase)
+        && firm[code.len()..].iter().all(|&byte| byte == b' ')
+}
+
+fn record_sound(record: &Record) -> bool {
+    let token_legal = record[1..15]
+        .iter()
+        .all(|&byte| byte == b' ' || byte.is_ascii_alphanumeric());
+    let liable = u64::from(number(record, 16));
+    let spent = u64::from(number(record, 20)) + u64::from(number(record, 24));
+    token_legal
+        && match record[0] {
+            b'L' => spent < liable && liable <= MOST_SHARES,
+            b'D' => spent == liable && liable <= MOST_SHARES,
+            b'R' => record[15..].iter().all(|&byte| byte == 0),
+            _ => false,
+        }
+}
+
+/// Four bytes of an array as a number; the places are constants, so nothing is left to check.
+fn number<const N: usize>(bytes: &[u8; N], at: usize) -> u32 {
+    let mut four = [0; 4];
+    four.copy_from_slice(&bytes[at..at + 4]);
+    u32::from_be_bytes(four)
+}
+
+/// Eight bytes likewise.
+fn long_number<const N: usize>(bytes: &[u8; N], at: usize) -> u64 {
+    let mut eight = [0; 8];
+    eight.copy_from_slice(&bytes[at..at + 8]);
+    u64::from_be_bytes(eight)
+}
+
+#[cfg(test)]
+mod tests {
+    use second::Host;
+    use second::tapes::{Chance, damage, sound_table};
+
+    use super::{find, judge};
+
+    #[test]
+    fn judges_as_the_second_host_does() {
+        let mut chance = Chance::new(1);
+        let (mut sound, mut unsound) = (0, 0);
+        for _ in 0..6_000 {
+            let records = 1 + chance.place(12);
+            let mut table = sound_table(&mut chance, records);
+            assert!(judge(&table));
+            damage::table(&mut chance, &mut table);
+            let judged = judge(&table);
+            assert_eq!(judged, Host::load(&table).is_some());
+            *(if judged { &mut sound } else { &mut unsound }) += 1;
+        }
+        assert!(sound > 1_000 && unsound > 1_000, "{sound} {unsound}");
+    }
+
+    #[test]
+    fn finds_the_first_used_record() {
+        let mut chance = Chance::new(2);
+        for _ in 0..500 {
+            let table = sound_table(&mut chance, 9);
+            let used = usize::from(table[7]);
+            let token = |place: usize| table[65 + 80 * place..][..14].try_into().unwrap();
+            for place in 0..9 {
+                let first = (0..used).find(|&earlier| token(earlier) == token(place));
+                assert_eq!(find(&table, &token(place)), first);
+            }
+        }
+    }
+}

@@ -1,0 +1,114 @@
+//! What is measured on: tables with so many live orders, and a legal message of each kind.
+
+use second::tapes::{Chance, message};
+use second::{echo, fresh, step};
+
+/// The table's records, of which some are used.
+const RECORDS: usize = 800;
+/// The stamp of all entries; an equal stamp is never too low.
+const STAMP: [u8; 8] = 1_u64.to_be_bytes();
+/// The shares of every order.
+const SHARES: [u8; 4] = 500_u32.to_be_bytes();
+
+/// A table, the token of its last used record, and two Modify entries for that token which change
+/// its side to and fro: each is done for ever, after a search of all used records.
+#[derive(Clone)]
+pub struct Scene {
+    pub table: Vec<u8>,
+    pub token: [u8; 14],
+    pub to_and_fro: [Vec<u8>; 2],
+}
+
+impl Scene {
+    /// A day that is open, with so many live orders to sell.
+    pub fn new(used: usize) -> Scene {
+        let mut table = vec![0; 64 + 80 * RECORDS];
+        assert_eq!(fresh(&mut table, 1_000_000, &[*b"ABCD"]), 0);
+        offer(&mut table, &[b"s".as_slice(), &STAMP, b"S"].concat());
+        for order in 1..=used {
+            offer(&mut table, &enter(&token(order)));
+        }
+        let token = token(used);
+        let modify = |side| [b"M".as_slice(), &STAMP, &token, side, &SHARES].concat();
+        Scene {
+            table,
+            token,
+            to_and_fro: [modify(b"T"), modify(b"S")],
+        }
+    }
+}
+
+/// An entry that the table takes, its message thrown away.
+fn offer(table: &mut [u8], entry: &[u8]) {
+    let (mut at, mut held) = (0, 0);
+    assert_eq!(step(table, &mut [0; 80], &mut at, &mut held, entry), 0);
+}
+
+/// Tokens that differ at the end, as a client's running number does.
+fn token(order: usize) -> [u8; 14] {
+    let mut token = *b"CLIENT        ";
+    token[6..].copy_from_slice(format!("{order:08}").as_bytes());
+    token
+}
+
+fn enter(token: &[u8; 14]) -> Vec<u8> {
+    [
+        b"O".as_slice(),
+        &STAMP,
+        token,
+        b"S",
+        &SHARES,
+        b"IBM     ",
+        &1_234_500_u32.to_be_bytes(),
+        &99_999_u32.to_be_bytes(),
+        b"ABCD",
+        b"YPN",
+        &[0; 4],
+        b"N",
+    ]
+    .concat()
+}
+
+/// A legal message of each of the sixteen kinds, inbound ones first.
+pub fn messages() -> Vec<(bool, Vec<u8>)> {
+    let mut chance = Chance::new(1);
+    let mut found: Vec<(bool, Vec<u8>)> = Vec::new();
+    while found.len() < 16 {
+        let (inbound, message) = message(&mut chance);
+        let legal = echo(inbound, &message, &mut [0; 80]) == 0;
+        let known = |(i, m): &(bool, Vec<u8>)| (*i, m[0]) == (inbound, message[0]);
+        if legal && !found.iter().any(known) {
+            found.push((inbound, message));
+        }
+    }
+    found.sort_by_key(|(inbound, message)| (!inbound, message[0]));
+    found
+}
+
+#[cfg(test)]
+mod tests {
+    use super::{RECORDS, Scene, messages};
+    use crate::plain;
+
+    #[test]
+    fn a_scene_goes_on_for_ever() {
+        for used in [1, 100, RECORDS] {
+            let mut scene = Scene::new(used);
+            assert!(plain::judge(&scene.table));
+            assert_eq!(plain::find(&scene.table, &scene.token), Some(used - 1));
+            let first = scene.table.clone();
+            for _ in 0..3 {
+                for entry in &scene.to_and_fro {
+                    super::offer(&mut scene.table, entry);
+                }
+                assert!(scene.table == first);
+            }
+        }
+    }
+
+    #[test]
+    fn there_is_a_message_of_each_kind() {
+        let kinds: Vec<u8> = messages().iter().map(|(_, message)| message[0]).collect();
+        assert_eq!(kinds, b"MOUXABCDEIJMPSTU");
+    }
+}

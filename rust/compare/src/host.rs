@@ -1,0 +1,69 @@
+//! A host as the comparison sees it: five calls over bytes, and the two hosts that have them.
+
+use pilaqsevi::Marks;
+
+/// The paper's calls; an answer is the paper's number.
+pub trait Host {
+    fn fresh(&self, table: &mut [u8], threshold: u32, firms: &[[u8; 4]]) -> u8;
+    fn step(&self, table: &mut [u8], ring: &mut [u8], marks: &mut Marks, entry: &[u8]) -> u8;
+    fn read<'a>(&self, ring: &'a [u8], marks: Marks) -> &'a [u8];
+    fn release(&self, ring_len: usize, marks: &mut Marks, k: usize) -> u8;
+    fn echo(&self, inbound: bool, message: &[u8], out: &mut [u8]) -> u8;
+}
+
+/// The second host, which says what is right.
+pub struct Second;
+
+impl Host for Second {
+    fn fresh(&self, table: &mut [u8], threshold: u32, firms: &[[u8; 4]]) -> u8 {
+        second::fresh(table, threshold, firms)
+    }
+
+    fn step(&self, table: &mut [u8], ring: &mut [u8], marks: &mut Marks, entry: &[u8]) -> u8 {
+        second::step(table, ring, &mut marks.at, &mut marks.held, entry)
+    }
+
+    fn read<'a>(&self, ring: &'a [u8], marks: Marks) -> &'a [u8] {
+        second::read(ring, marks.at, marks.held)
+    }
+
+    fn release(&self, ring_len: usize, marks: &mut Marks, k: usize) -> u8 {
+        second::release(ring_len, &mut marks.at, &mut marks.held, k)
+    }
+
+    fn echo(&self, inbound: bool, message: &[u8], out: &mut [u8]) -> u8 {
+        second::echo(inbound, message, out)
+    }
+}
+
+/// The proved host, through its door.
+pub struct Proved(());
+
+impl Proved {
+    /// The proved host, or why it isn't linked.
+    pub fn linked() -> Result<Proved, &'static str> {
+        pilaqsevi::absent().map_or(Ok(Proved(())), Err)
+    }
+}
+
+impl Host for Proved {
+    fn fresh(&self, table: &mut [u8], threshold: u32, firms: &[[u8; 4]]) -> u8 {
+        pilaqsevi::fresh(table, threshold, firms).number()
+    }
+
+    fn step(&self, table: &mut [u8], ring: &mut [u8], marks: &mut Marks, entry: &[u8]) -> u8 {
+        pilaqsevi::step(table, ring, marks, entry).number()
+    }
+
+    fn read<'a>(&self, ring: &'a [u8], marks: Marks) -> &'a [u8] {
+        pilaqsevi::read(ring, marks)
+    }
+
+    fn release(&self, ring_len: usize, marks: &mut Marks, k: usize) -> u8 {
+        pilaqsevi::release(ring_len, marks, k).number()
+    }
+
+    fn echo(&self, inbound: bool, message: &[u8], out: &mut [u8]) -> u8 {
+        pilaqsevi::echo(inbound, message, out).number()
+    }
+}

@@ -1,0 +1,123 @@
+//! The door to the proved host: its five calls, with slices in and answers out.
+//!
+//! The functions are proved, compiled to an archive by `rt staticlib port` and linked by cargo.
+//! Each is total: it has an answer for every table, ring, pair of marks and entry, sound or not,
+//! and only [`Answer::Done`] changes anything.
+//!
+//! ```
+//! use pilaqsevi::{Answer, Marks, fresh, read, release, step};
+//!
+//! # if let Some(why) = pilaqsevi::absent() {
+//! #     println!("{why}");
+//! #     return;
+//! # }
+//! let mut table = [0; 64 + 80 * 10];
+//! assert_eq!(fresh(&mut table, 1_000_000, &[*b"ABCD"]), Answer::Done);
+//!
+//! let (mut ring, mut marks) = ([0; 4_096], Marks::default());
+//! let start_of_day = b"s\0\0\0\0\0\0\0\x01S";
+//! assert_eq!(step(&mut table, &mut ring, &mut marks, start_of_day), Answer::Done);
+//!
+//! // What is to be sent is a part of the ring; once it is sent, it is given up.
+//! let to_send = read(&ring, marks);
+//! assert_eq!(to_send, b"S\0\0\0\0\0\0\0\x01S");
+//! let sent = to_send.len();
+//! assert_eq!(release(ring.len(), &mut marks, sent), Answer::Done);
+//! ```
+
+mod answer;
+mod raw;
+
+pub use answer::Answer;
+
+/// Where the held bytes of a ring begin and how many they are. A new ring has zeros.
+#[derive(Clone, Copy, Debug, Default, PartialEq, Eq)]
+pub struct Marks {
+    /// The read place, below the ring's length.
+    pub at: usize,
+    /// The held count, at most the ring's length.
+    pub held: usize,
+}
+
+/// Why this program can't call the proved functions, or nothing where it can.
+///
+/// Where there is a reason, each call below ends the program with it.
+pub fn absent() -> Option<&'static str> {
+    raw::ABSENT
+}
+
+/// Makes the table fresh: day 0, nothing used, this threshold and these firms (1 to 8, the first
+/// is the default; each 1 to 4 capitals, then spaces).
+///
+/// A table is 64 + 80n bytes with n from 1 to 800, or the answer is [`Answer::TableNotSound`]; then
+/// bad settings are [`Answer::BadField`].
+pub fn fresh(table: &mut [u8], threshold: u32, firms: &[[u8; 4]]) -> Answer {
+    let firms = firms.as_flattened();
+    // SAFETY: both pointers come with the lengths of their slices, the borrows are apart and last
+    // through the call, and the function keeps no pointer.
+    Answer::of(unsafe {
+        raw::pq_fresh(
+            table.as_mut_ptr(),
+            table.len(),
+            threshold,
+            firms.as_ptr(),
+            firms.len(),
+        )
+    })
+}
+
+/// Offers one entry to the host that the table's bytes describe.
+///
+/// A done entry changes the table and puts at most one message behind the ring's held bytes. A
+/// blocked one ([`Answer::NoRoom`]) may be offered again once bytes have been released.
+pub fn step(table: &mut [u8], ring: &mut [u8], marks: &mut Marks, entry: &[u8]) -> Answer {
+    // SAFETY: each pointer comes with the length of its slice or is to one number, the borrows are
+    // apart and last through the call, and the function keeps no pointer.
+    Answer::of(unsafe {
+        raw::pq_step(
+            table.as_mut_ptr(),
+            table.len(),
+            ring.as_mut_ptr(),
+            ring.len(),
+            &mut marks.at,
+            &mut marks.held,
+            entry.as_ptr(),
+            entry.len(),
+        )
+    })
+}
+
+/// The longest unbroken run of held bytes from the read place, a part of the ring itself. Over a
+/// wrong ring length or wrong marks, as over nothing held, it is empty.
+pub fn read(ring: &[u8], marks: Marks) -> &[u8] {
+    // SAFETY: the pointer comes with the length of its slice, which is only read.
+    let len = unsafe { raw::pq_read(ring.as_ptr(), ring.len(), marks.at, marks.held) };
+    // Cut by Rust's own checks, so that no promise of the archive is needed for safety here.
+    let from_place = ring.get(marks.at..).unwrap_or(&[]);
+    from_place.get(..len).unwrap_or(&[])
+}
+
+/// Gives up k held bytes of a ring of this length: [`Answer::WrongMarks`] for a wrong length or
+/// wrong marks, [`Answer::ReleaseAboveHeld`] for more than is held.
+pub fn release(ring_len: usize, marks: &mut Marks, k: usize) -> Answer {
+    // SAFETY: the pointers are to two numbers that are borrowed through the call, apart from each
+    // other, and the function keeps neither.
+    Answer::of(unsafe { raw::pq_release(ring_len, &mut marks.at, &mut marks.held, k) })
+}
+
+/// Reads one of the sixteen messages and writes it back into `out`; bytes after it stay.
+///
+/// U and M name two messages each, and `inbound` says which is meant.
+pub fn echo(inbound: bool, message: &[u8], out: &mut [u8]) -> Answer {
+    // SAFETY: both pointers come with the lengths of their slices, the borrows are apart and last
+    // through the call, and the function keeps no pointer.
+    Answer::of(unsafe {
+        raw::pq_echo(
+            u8::from(inbound),
+            message.as_ptr(),
+            message.len(),
+            out.as_mut_ptr(),
+            out.len(),
+        )
+    })
+}

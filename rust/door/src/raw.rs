@@ -1,0 +1,54 @@
+//! The archive's functions as C sees them, declared once for both kinds of build.
+//!
+//! Where the archive is linked these are its functions. Where there is none, functions of the same
+//! types stand in their places and end the program with the reason, so that all that calls them is
+//! compiled, and held to their types, on every machine.
+
+macro_rules! archive {
+    ($($(#[$doc:meta])* fn $name:ident($($argument:ident: $kind:ty),*) -> $result:ty;)*) => {
+        #[cfg(linked)]
+        unsafe extern "C" {
+            $($(#[$doc])* pub fn $name($($argument: $kind),*) -> $result;)*
+        }
+        $(
+            #[cfg(not(linked))]
+            #[allow(clippy::too_many_arguments, reason = "C lends each buffer as two arguments")]
+            $(#[$doc])*
+            pub unsafe fn $name($(_: $kind),*) -> $result {
+                panic!("{}", ABSENT.unwrap_or_default())
+            }
+        )*
+    };
+}
+
+// A pointer is to as many bytes as the length behind it says; `at` and `held` are to one number.
+archive! {
+    /// Makes the table fresh; the firms are 4 bytes each, one after the other, and `firms_len`
+    /// counts bytes.
+    fn pq_fresh(
+        table: *mut u8, table_len: usize, threshold: u32, firms: *const u8, firms_len: usize
+    ) -> u8;
+
+    /// Offers one entry.
+    fn pq_step(
+        table: *mut u8, table_len: usize, ring: *mut u8, ring_len: usize,
+        at: *mut usize, held: *mut usize, entry: *const u8, entry_len: usize
+    ) -> u8;
+
+    /// The length of the run that starts at `ring + at`.
+    fn pq_read(ring: *const u8, ring_len: usize, at: usize, held: usize) -> usize;
+
+    /// Gives up k held bytes.
+    fn pq_release(ring_len: usize, at: *mut usize, held: *mut usize, k: usize) -> u8;
+
+    /// Reads the message and writes it back into `out`.
+    fn pq_echo(
+        inbound: u8, message: *const u8, len: usize, out: *mut u8, out_len: usize
+    ) -> u8;
+}
+
+/// Why no archive is linked, as the build found it.
+#[cfg(linked)]
+pub const ABSENT: Option<&str> = None;
+#[cfg(not(linked))]
+pub const ABSENT: Option<&str> = Some(env!("PILAQSEVI_ABSENT"));

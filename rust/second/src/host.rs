@@ -1,0 +1,149 @@
+//! The host: its rows, the index of tokens, and the one place where a done entry changes them.
+
+use std::collections::HashMap;
+
+use crate::answer::Answer;
+use crate::entry::Entry;
+use crate::field::{Field, Stamp, Token};
+use crate::order::{Order, RECORD_LEN, Record};
+use crate::outbox::Outbox;
+use crate::rules::{Deed, decide};
+use crate::table::{Day, HEADER_LEN, Header, LAST_REFERENCE, record_count};
+
+/// A sound table in the host's own structures.
+#[derive(Clone, Debug)]
+pub struct Host {
+    pub(crate) header: Header,
+    /// The used records, in the table's order.
+    records: Vec<Record>,
+    /// The bytes of the unused records, the last one first, so that the next to be used is popped.
+    /// Nothing judges them, but an image must show them as they were.
+    unused: Vec<[u8; RECORD_LEN]>,
+    /// A token means its first used record.
+    first: HashMap<Token, usize>,
+}
+
+impl Host {
+    /// The host of a table, or nothing where the table isn't sound.
+    pub fn load(table: &[u8]) -> Option<Host> {
+        let count = record_count(table.len())?;
+        let (header_bytes, record_bytes) = table.split_at(HEADER_LEN);
+        let (header, used) = Header::read(header_bytes)?;
+        if used > count {
+            return None;
+        }
+        let (used_bytes, unused_bytes) = record_bytes.split_at(used * RECORD_LEN);
+        let records: Vec<Record> = used_bytes
+            .chunks_exact(RECORD_LEN)
+            .map(Record::read)
+            .collect::<Option<_>>()?;
+        let unused = unused_bytes
+            .chunks_exact(RECORD_LEN)
+            .rev()
+            .map(Field::get)
+            .collect();
+        let mut first = HashMap::with_capacity(count);
+        for (place, record) in records.iter().enumerate() {
+            first.entry(record.token()).or_insert(place);
+        }
+        Some(Host {
+            header,
+            records,
+            unused,
+            first,
+        })
+    }
+
+    /// The table's bytes.
+    pub fn image(&self) -> Vec<u8> {
+        let records = self.records.len() + self.unused.len();
+        let mut table = vec![0; HEADER_LEN + records * RECORD_LEN];
+        let (header, rest) = table.split_at_mut(HEADER_LEN);
+        self.header.write(self.records.len(), header);
+        let (used, unused) = rest.split_at_mut(self.records.len() * RECORD_LEN);
+        for (record, out) in self.records.iter().zip(used.chunks_exact_mut(RECORD_LEN)) {
+            record.write(out);
+        }
+        for (bytes, out) in self
+            .unused
+            .iter()
+            .rev()
+            .zip(unused.chunks_exact_mut(RECORD_LEN))
+        {
+            bytes.put(out);
+        }
+        table
+    }
+
+    /// Offers one entry; the answer is the paper's number, and only 0 changes anything.
+    pub fn offer<R>(&mut self, outbox: &mut Outbox<R>, entry: &[u8]) -> u8
+    where
+        R: AsRef<[u8]> + AsMut<[u8]>,
+    {
+        Answer::of(self.take(outbox, entry))
+    }
+
+    /// What the entry comes to is decided without touching anything; then the room it needs is
+    /// asked for; the outbox is last to refuse, and after it nothing can.
+    fn take<R>(&mut self, outbox: &mut Outbox<R>, entry: &[u8]) -> Result<(), Answer>
+    where
+        R: AsRef<[u8]> + AsMut<[u8]>,
+    {
+        let entry = Entry::read(entry)?;
+        let deed = decide(self, &entry)?;
+        self.can_afford(&deed)?;
+        if let Some(sent) = &deed.sends {
+            outbox.put(sent.bytes())?;
+        }
+        self.carry_out(entry.stamp(), deed);
+        Ok(())
+    }
+
+    /// 8: a token must be stored and no record is free, or a reference is needed and none is left.
+    fn can_afford(&self, deed: &Deed) -> Result<(), Answer> {
+        let no_record = deed.stores.is_some() && self.unused.is_empty();
+        let no_reference = deed.takes_reference && self.header.next_reference == LAST_REFERENCE;
+        if no_record || no_reference {
+            return Err(Answer::NothingFree);
+        }
+        Ok(())
+    }
+
+    fn carry_out(&mut self, stamp: Stamp, deed: Deed) {
+        self.header.last_stamp = stamp;
+        if let Some(day) = deed.day {
+            self.header.day = day;
+        }
+        if deed.takes_reference {
+            self.header.next_reference += 1;
+        }
+        if let Some((place, order)) = deed.rewrites {
+            self.records[place] = Record::Order(order);
+        }
+        if let Some(record) = deed.stores {
+            self.unused.pop();
+            self.first.insert(record.token(), self.records.len());
+            self.records.push(record);
+        }
+    }
+
+    /// Whether the day is open.
+    pub(crate) fn day_open(&self) -> bool {
+        self.header.day == Day::Open
+    }
+
+    /// Whether any used record has this token.
+    pub(crate) fn used(&self, token: Token) -> bool {
+        self.first.contains_key(&token)
+    }
+
+    /// The live order of this token and its place. The first record decides, so a token whose first
+    /// record is dead isn't live, whatever follows in a table made by hand.
+    pub(crate) fn live(&self, token: Token) -> Option<(usize, Order)> {
+        let place = *self.first.get(&token)?;
+        match self.records[place] {
+            Record::Order(order) if order.live() => Some((place, order)),
+            _ => None,
+        }
+    }
+}

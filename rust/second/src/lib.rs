@@ -1,0 +1,42 @@
+//! The second host: an order host for OUCH 4.2 written from the rule paper (document 01) alone, so
+//! that the proved host can be compared with it byte for byte.
+//!
+//! Nothing here is shared with the proved host, neither code nor constants. The host keeps its own
+//! structures and turns them into the paper's bytes only at its doors:
+//!
+//! - [`fresh`], [`step`], [`read`], [`release`]: the paper's calls over bytes, total on all inputs;
+//! - [`echo`]: reads one of the sixteen messages and writes it back;
+//! - [`Host`] with [`Outbox`]: the same host kept between steps;
+//! - [`listing`]: what the paper's program prints for a tape;
+//! - [`tapes`]: seeded random tapes, tables and damage for comparing hosts.
+
+#![forbid(unsafe_code)]
+
+mod answer;
+mod door;
+mod echo;
+mod entry;
+mod field;
+mod host;
+mod layout;
+mod listing;
+pub mod messages;
+mod order;
+mod outbox;
+mod rules;
+mod shares;
+mod table;
+pub mod tapes;
+
+#[cfg(test)]
+mod tests;
+
+pub use answer::Answer;
+pub use door::{fresh, read, release, step};
+pub use echo::echo;
+pub use field::{Side, Stamp, Sweep, Token};
+pub use host::Host;
+pub use layout::{Fields, Message};
+pub use listing::listing;
+pub use outbox::Outbox;
+pub use shares::{Open, Removed, Total};

@@ -1,0 +1,121 @@
+//! Seeded random tapes: entries that mostly make sense against the table as it stands.
+//!
+//! The makers below write bytes by the paper's tables and not by this host's layouts, so that a
+//! wrong layout shows. Nothing here judges; a maker may look at any bytes, sound or not.
+
+mod chance;
+pub mod damage;
+mod from_book;
+mod from_client;
+mod look;
+mod made;
+mod messages;
+mod values;
+
+pub use chance::Chance;
+pub use made::{settings, sound_table};
+pub use messages::message;
+
+use look::Look;
+
+/// How many of the last entries are kept for sending again.
+const KEPT: usize = 64;
+
+/// A source of entries; the same seed over the same tables gives the same entries.
+#[derive(Clone, Debug)]
+pub struct Tapes {
+    chance: Chance,
+    past: Vec<Vec<u8>>,
+    /// The day is closed about once in so many entries; some tapes never close.
+    closes_once_in: u64,
+}
+
+impl Tapes {
+    /// A source of entries.
+    pub fn new(seed: u64) -> Tapes {
+        let mut chance = Chance::new(seed);
+        let closes_once_in = chance.pick(&[150, 400, 2_000, u64::MAX]);
+        Tapes {
+            chance,
+            past: Vec::new(),
+            closes_once_in,
+        }
+    }
+
+    /// The next entry, for a host whose table has these bytes.
+    pub fn entry(&mut self, table: &[u8]) -> Vec<u8> {
+        let look = Look::at(table);
+        let entry = match self.chance.below(100) {
+            0..=3 => self.sent_again(&look),
+            4..=8 => self.sent_again_now(&look),
+            9..=13 => {
+                let whole = self.sensible(&look);
+                damage::misread(&mut self.chance, whole)
+            }
+            _ => self.sensible(&look),
+        };
+        self.past.push(entry.clone());
+        if self.past.len() > KEPT {
+            self.past.remove(0);
+        }
+        entry
+    }
+
+    /// An earlier entry byte for byte; often the last one, whose stamp isn't yet too low.
+    fn sent_again(&mut self, look: &Look) -> Vec<u8> {
+        let latest = self.past.last().cloned();
+        let any = self.chance.choose(&self.past).cloned();
+        let again = if self.chance.one_in(2) { latest } else { any };
+        again.unwrap_or_else(|| self.sensible(look))
+    }
+
+    /// An earlier entry with a stamp of now, so that it comes to more than answer 4.
+    fn sent_again_now(&mut self, look: &Look) -> Vec<u8> {
+        let stamp = values::stamp(&mut self.chance, look);
+        let mut entry = self.sent_again(look);
+        if let Some(place) = entry.get_mut(1..9) {
+            place.copy_from_slice(&stamp.to_be_bytes());
+        }
+        entry
+    }
+
+    /// An entry that fits the day and, mostly, some order of the table.
+    fn sensible(&mut self, look: &Look) -> Vec<u8> {
+        let wants_start = look.day() == 0 && self.chance.one_in(3);
+        let wants_end = look.day() == 1 && self.chance.one_in(self.closes_once_in);
+        let chance = &mut self.chance;
+        if wants_start || wants_end || chance.one_in(120) {
+            return from_book::system(chance, look);
+        }
+        // Few orders mean many Enters, so that the other kinds find something to act on; a full
+        // table means few, since it only answers them with 8.
+        let enters = match (look.full(), look.live().len()) {
+            (true, _) => 4,
+            (false, 0..=3) => 60,
+            _ => 20,
+        };
+        let kinds = [
+            (enters, from_client::enter as Maker),
+            (18, from_client::replace),
+            (16, from_client::cancel),
+            (10, from_client::modify),
+            (12, from_book::execution),
+            (7, from_book::book_cancel),
+            (7, from_book::self_match),
+            (4, from_book::priority),
+            (7, from_book::late_begins),
+            (6, from_book::cross_done),
+        ];
+        chance.weighted(&kinds)(chance, look)
+    }
+}
+
+/// Whether little can happen to this table any more: nothing is live, and no order can be entered
+/// since the day is closed or no record is free. A driver then takes another table.
+pub fn worn_out(table: &[u8]) -> bool {
+    let look = Look::at(table);
+    look.live().is_empty() && (look.day() == 2 || look.full())
+}
+
+/// Makes the bytes of one entry.
+type Maker = fn(&mut Chance, &Look) -> Vec<u8>;

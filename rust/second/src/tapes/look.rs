@@ -1,0 +1,111 @@
+//! A look at a table's bytes, sound or not, by the paper's offsets.
+
+/// The bytes and how many records they can show.
+pub struct Look<'a> {
+    table: &'a [u8],
+    room: usize,
+    used: usize,
+}
+
+impl<'a> Look<'a> {
+    /// Looks at any bytes; what isn't there reads as zero.
+    pub fn at(table: &'a [u8]) -> Look<'a> {
+        let room = table.len().saturating_sub(64) / 80;
+        let claimed = number(table, 4, 4) as usize;
+        Look {
+            table,
+            room,
+            used: claimed.min(room),
+        }
+    }
+
+    pub fn day(&self) -> u8 {
+        number(self.table, 0, 1) as u8
+    }
+
+    pub fn last_stamp(&self) -> u64 {
+        number(self.table, 8, 8)
+    }
+
+    pub fn threshold(&self) -> u32 {
+        number(self.table, 24, 4) as u32
+    }
+
+    /// The listed firms.
+    pub fn firms(&self) -> Vec<[u8; 4]> {
+        let count = number(self.table, 1, 1).min(8) as usize;
+        (0..count)
+            .map(|place| bytes(self.table, 28 + 4 * place))
+            .collect()
+    }
+
+    /// Whether no record is free.
+    pub fn full(&self) -> bool {
+        self.used == self.room
+    }
+
+    /// The used records.
+    pub fn records(&self) -> Vec<Row<'a>> {
+        let rows = self.table.get(64..).unwrap_or(&[]).chunks_exact(80);
+        rows.take(self.used).map(Row).collect()
+    }
+
+    /// The records in state L.
+    pub fn live(&self) -> Vec<Row<'a>> {
+        let mut rows = self.records();
+        rows.retain(|row| row.0[0] == b'L');
+        rows
+    }
+}
+
+/// One record's 80 bytes.
+#[derive(Clone, Copy)]
+pub struct Row<'a>(&'a [u8]);
+
+impl Row<'_> {
+    pub fn token(self) -> [u8; 14] {
+        bytes(self.0, 1)
+    }
+
+    pub fn side(self) -> u8 {
+        self.0[15]
+    }
+
+    pub fn liable(self) -> u32 {
+        number(self.0, 16, 4) as u32
+    }
+
+    /// Executed + self-matched.
+    pub fn spent(self) -> u32 {
+        let spent = number(self.0, 20, 4) + number(self.0, 24, 4);
+        u32::try_from(spent).unwrap_or(u32::MAX)
+    }
+
+    pub fn open(self) -> u32 {
+        self.liable().saturating_sub(self.spent())
+    }
+
+    pub fn in_cross(self) -> bool {
+        self.0[55] != b'N'
+    }
+
+    pub fn late(self) -> bool {
+        self.0[64] & 1 != 0
+    }
+}
+
+/// The number of so many bytes, or 0 where they aren't all there.
+fn number(from: &[u8], at: usize, len: usize) -> u64 {
+    let place = from.get(at..at + len).unwrap_or(&[]);
+    place
+        .iter()
+        .fold(0, |number, &byte| number << 8 | u64::from(byte))
+}
+
+/// N bytes, or zeros where they aren't all there.
+fn bytes<const N: usize>(from: &[u8], at: usize) -> [u8; N] {
+    let place = from.get(at..at + N);
+    place
+        .and_then(|place| place.try_into().ok())
+        .unwrap_or([0; N])
+}

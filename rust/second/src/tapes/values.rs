@@ -1,0 +1,193 @@
+//! Values for fields: mostly good ones, and all those where a rule turns.
+
+use super::chance::Chance;
+use super::look::{Look, Row};
+
+/// The first stamp that isn't legal.
+pub const STAMPS_END: u64 = 24 * 3_600 * 1_000_000_000;
+/// Characters that a token may hold.
+const TOKEN_CHARACTERS: &[u8] = b"ABCXYZabcxyz0189 ";
+
+/// Equal to the last, growing, and now and then below it or at the day's end.
+pub fn stamp(chance: &mut Chance, look: &Look) -> u64 {
+    let last = look.last_stamp();
+    let wanted = match chance.below(2_000) {
+        0 => STAMPS_END - 1,
+        1..=39 => last.saturating_sub(1),
+        40..=59 => chance.below(last.max(1)),
+        60..=600 => last,
+        601..=1_200 => last.saturating_add(1),
+        _ => last.saturating_add(chance.below(50_000_000)),
+    };
+    wanted.min(STAMPS_END - 1)
+}
+
+/// A token of random characters, which is almost surely unused; now and then all spaces.
+pub fn new_token(chance: &mut Chance) -> [u8; 14] {
+    if chance.one_in(150) {
+        return [b' '; 14];
+    }
+    std::array::from_fn(|_| chance.pick(TOKEN_CHARACTERS))
+}
+
+/// A token that differs from a used one in a single place, which may be an end.
+fn near_token(chance: &mut Chance, mut token: [u8; 14]) -> [u8; 14] {
+    let place = chance.pick(&[0, 13, 6, 7, 12]);
+    token[place] = chance.pick(TOKEN_CHARACTERS);
+    token
+}
+
+/// A token for a new order: mostly a new one.
+pub fn token_to_store(chance: &mut Chance, look: &Look) -> [u8; 14] {
+    let used = chance.choose(&look.records()).map(|row| row.token());
+    match (chance.below(100), used) {
+        (0..=7, Some(token)) => token,
+        (8..=14, Some(token)) => near_token(chance, token),
+        _ => new_token(chance),
+    }
+}
+
+/// A token to act on: mostly the wanted row's.
+pub fn token_to_name(chance: &mut Chance, look: &Look, wanted: Option<Row>) -> [u8; 14] {
+    let used = chance.choose(&look.records()).map(|row| row.token());
+    match (chance.below(100), wanted, used) {
+        (0..=4, _, Some(token)) => token,
+        (5..=7, _, Some(token)) => near_token(chance, token),
+        (8, _, _) => new_token(chance),
+        (_, Some(row), _) => row.token(),
+        (_, None, Some(token)) => token,
+        (_, None, None) => new_token(chance),
+    }
+}
+
+/// Shares wherever a rule about this row turns, or anything between.
+pub fn shares_about(chance: &mut Chance, look: &Look, row: Option<Row>) -> u32 {
+    let (spent, open, liable) =
+        row.map_or((0, 0, 0), |row| (row.spent(), row.open(), row.liable()));
+    let turns = [spent, open, liable, look.threshold()];
+    match chance.below(10) {
+        0..=5 => around(chance, &turns),
+        6 => chance.pick(&[0, 1, 999_999, 1_000_000, u32::MAX]),
+        7 => chance.below(u64::from(open) + 1) as u32,
+        _ => spent.saturating_add(chance.below(u64::from(open) + 1) as u32),
+    }
+}
+
+/// Shares for a new order: mostly what will be accepted.
+pub fn shares_to_enter(chance: &mut Chance, look: &Look) -> u32 {
+    let below = look.threshold().saturating_sub(1);
+    match chance.below(20) {
+        0 => around(chance, &[look.threshold()]),
+        1 => chance.pick(&[0, 1, 999_999, 1_000_000, u32::MAX]),
+        2..=4 => below,
+        5..=9 => 1 + chance.below(u64::from(below)) as u32,
+        10..=12 => below.min(2),
+        _ => below.min(500),
+    }
+}
+
+/// One of the numbers, or its neighbour.
+fn around(chance: &mut Chance, numbers: &[u32]) -> u32 {
+    let number = chance.pick(numbers);
+    match chance.below(3) {
+        0 => number.saturating_sub(1),
+        1 => number,
+        _ => number.saturating_add(1),
+    }
+}
+
+/// A price: mostly legal whatever the cross.
+pub fn price(chance: &mut Chance) -> u32 {
+    match chance.below(14) {
+        0 => chance.pick(&[0, 1_999_999_901, 2_147_483_646, 2_147_483_648, u32::MAX]),
+        1..=2 => 2_147_483_647,
+        3 => 1,
+        4 => 1_999_999_900,
+        _ => 1 + chance.below(1_999_999_900) as u32,
+    }
+}
+
+/// Time in force and minimum together, since one judges the other; mostly good.
+pub fn time_and_minimum(chance: &mut Chance, shares: u32) -> (u32, u32) {
+    let minimums = [
+        1,
+        shares.saturating_sub(1),
+        shares,
+        shares.saturating_add(1),
+        u32::MAX,
+    ];
+    let times = [1, 60, 99_997, 99_998, 99_999, 100_000, u32::MAX];
+    match chance.below(10) {
+        0 => (chance.pick(&times), chance.pick(&minimums)),
+        1..=3 => (0, chance.pick(&minimums[..3])),
+        4 => (0, chance.pick(&minimums)),
+        5 => (0, 0),
+        _ => (chance.pick(&times), 0),
+    }
+}
+
+/// A firm: blank, listed or, seldom, neither. Zeros are the places past the count.
+pub fn firm(chance: &mut Chance, look: &Look) -> [u8; 4] {
+    let firms = look.firms();
+    match chance.below(25) {
+        0 => chance.pick(&[*b"ZZZZ", *b"    ", [0; 4], *b"   A", *b"abcd", *b"ABC\0"]),
+        1..=12 => *b"    ",
+        _ => chance.choose(&firms).copied().unwrap_or(*b"ABCD"),
+    }
+}
+
+/// A stock: mostly 1 to 8 capitals and then spaces.
+pub fn stock(chance: &mut Chance) -> [u8; 8] {
+    let bad = [
+        *b"        ",
+        *b" IBM    ",
+        *b"IB M    ",
+        *b"IBm     ",
+        *b"IBM1    ",
+        *b"IBM\0\0\0\0\0",
+        *b"IBM@    ",
+        *b"IBM[    ",
+        *b"MSFTMSF1",
+        *b"\0\0\0\0\0\0\0\0",
+        *b"A      A",
+    ];
+    let good = [
+        *b"A       ",
+        *b"IBM     ",
+        *b"AAZZ    ",
+        *b"ABCDEFG ",
+        *b"ABCDEFGH",
+        *b"ZZZZZZZZ",
+    ];
+    if chance.one_in(30) {
+        chance.pick(&bad)
+    } else {
+        chance.pick(&good)
+    }
+}
+
+/// A cross: half without one, so that late periods are common.
+pub fn cross(chance: &mut Chance) -> u8 {
+    let any = chance.byte();
+    chance.weighted(&[(48, b'N'), (25, b'O'), (25, b'C'), (1, b' '), (1, any)])
+}
+
+/// A display letter: mostly a legal one.
+pub fn display(chance: &mut Chance) -> u8 {
+    let any = chance.byte();
+    let legal = chance.pick(b"AYNPMW");
+    chance.weighted(&[(75, legal), (17, b'I'), (1, b'Z'), (1, b' '), (1, any)])
+}
+
+/// A capacity letter; the last ones aren't kept.
+pub fn capacity(chance: &mut Chance) -> u8 {
+    let any = chance.byte();
+    chance.weighted(&[
+        (10, b'A'),
+        (10, b'P'),
+        (10, b'R'),
+        (3, b'O'),
+        (2, b'p'),
+        (2, any),
+    ])
+}

@@ -1,0 +1,361 @@
+//! A test's desk: a table, a ring and its marks, with entries written byte by byte from the paper.
+
+use crate::{fresh, read, release, step};
+
+pub const ROOMY_RING: usize = 4_096;
+
+/// Where the desk's bytes are; every step is watched for changes that its answer doesn't allow.
+#[derive(Clone)]
+pub struct Desk {
+    pub table: Vec<u8>,
+    pub ring: Vec<u8>,
+    pub at: usize,
+    pub held: usize,
+}
+
+impl Desk {
+    /// A fresh table under threshold 1,000,000 with the firms ABCD and EF.
+    pub fn before_open(records: usize) -> Desk {
+        let mut table = vec![0xaa; 64 + 80 * records];
+        assert_eq!(fresh(&mut table, 1_000_000, &[*b"ABCD", *b"EF  "]), 0);
+        Desk {
+            table,
+            ring: vec![0; ROOMY_RING],
+            at: 0,
+            held: 0,
+        }
+    }
+
+    /// The same after the start of the day.
+    pub fn open(records: usize) -> Desk {
+        let mut desk = Desk::before_open(records);
+        assert_eq!(desk.answer(&system(1, b'S')), 0);
+        desk.empty();
+        desk
+    }
+
+    /// 500 entered under "A", 100 executed: where most worked numbers begin.
+    pub fn worked() -> Desk {
+        Desk::worked_as(O::good("A"))
+    }
+
+    pub fn worked_as(order: O) -> Desk {
+        let mut desk = Desk::open(8);
+        assert_eq!(desk.sent(&order.entry(2))[0], b'A');
+        assert_eq!(desk.sent(&execution(3, order.token, 100))[0], b'E');
+        desk
+    }
+
+    /// 500 entered under "A" for the closing cross, 100 executed, and the late period begun.
+    pub fn late() -> Desk {
+        let mut desk = Desk::worked_as(O {
+            cross: b'C',
+            ..O::good("A")
+        });
+        assert_eq!(desk.sent(&token_only(b'l', 4, "A")), b"");
+        desk
+    }
+
+    /// The step's answer. A refusal may change nothing; a done entry moves the last stamp.
+    pub fn answer(&mut self, entry: &[u8]) -> u8 {
+        let before = self.clone();
+        let answer = step(
+            &mut self.table,
+            &mut self.ring,
+            &mut self.at,
+            &mut self.held,
+            entry,
+        );
+        assert_eq!(self.at, before.at, "a step moves no read place");
+        if answer != 0 {
+            assert_eq!(
+                self.table, before.table,
+                "refused with {answer}, yet the table changed"
+            );
+            assert_eq!(
+                self.ring, before.ring,
+                "refused with {answer}, yet the ring changed"
+            );
+            assert_eq!(
+                self.held, before.held,
+                "refused with {answer}, yet the count changed"
+            );
+        } else {
+            assert_eq!(
+                self.table[8..16],
+                entry[1..9],
+                "the entry's stamp becomes the last"
+            );
+        }
+        answer
+    }
+
+    /// What a done entry sends; the outbox is emptied before and after.
+    pub fn sent(&mut self, entry: &[u8]) -> Vec<u8> {
+        self.empty();
+        assert_eq!(self.answer(entry), 0);
+        self.empty()
+    }
+
+    /// Takes all held bytes out.
+    pub fn empty(&mut self) -> Vec<u8> {
+        let mut out = Vec::new();
+        while self.held > 0 {
+            let run = read(&self.ring, self.at, self.held);
+            out.extend(run);
+            let k = run.len();
+            assert_eq!(release(self.ring.len(), &mut self.at, &mut self.held, k), 0);
+        }
+        out
+    }
+
+    /// An empty ring of another length.
+    pub fn with_ring(mut self, len: usize) -> Desk {
+        (self.ring, self.at, self.held) = (vec![0; len], 0, 0);
+        self
+    }
+
+    /// Leaves exactly so many bytes free.
+    pub fn with_free(mut self, free: usize) -> Desk {
+        self.held = self.ring.len() - free;
+        self
+    }
+
+    pub fn row(&self, place: usize) -> &[u8] {
+        &self.table[64 + 80 * place..][..80]
+    }
+
+    pub fn row_mut(&mut self, place: usize) -> &mut [u8] {
+        &mut self.table[64 + 80 * place..][..80]
+    }
+
+    pub fn used(&self) -> u64 {
+        number(&self.table[4..8])
+    }
+
+    pub fn next_reference(&self) -> u64 {
+        number(&self.table[16..24])
+    }
+
+    /// State, liable, executed and self-matched of a record.
+    pub fn shares(&self, place: usize) -> (char, u64, u64, u64) {
+        let row = self.row(place);
+        (
+            char::from(row[0]),
+            number(&row[16..20]),
+            number(&row[20..24]),
+            number(&row[24..28]),
+        )
+    }
+
+    pub fn flags(&self, place: usize) -> u8 {
+        self.row(place)[64]
+    }
+}
+
+/// The big-endian number of these bytes.
+pub fn number(bytes: &[u8]) -> u64 {
+    bytes
+        .iter()
+        .fold(0, |number, &byte| number << 8 | u64::from(byte))
+}
+
+pub fn token(name: &str) -> [u8; 14] {
+    let mut token = [b' '; 14];
+    token[..name.len()].copy_from_slice(name.as_bytes());
+    token
+}
+
+/// An Enter of which a test changes what it is about.
+#[derive(Clone, Copy)]
+pub struct O {
+    pub token: &'static str,
+    pub side: u8,
+    pub shares: u32,
+    pub stock: [u8; 8],
+    pub price: u32,
+    pub time_in_force: u32,
+    pub firm: [u8; 4],
+    pub display: u8,
+    pub capacity: u8,
+    pub sweep: u8,
+    pub minimum: u32,
+    pub cross: u8,
+}
+
+impl O {
+    pub fn good(token: &'static str) -> O {
+        O {
+            token,
+            side: b'S',
+            shares: 500,
+            stock: *b"IBM     ",
+            price: 1_234_500,
+            time_in_force: 99_998,
+            firm: *b"ABCD",
+            display: b'A',
+            capacity: b'P',
+            sweep: b'N',
+            minimum: 0,
+            cross: b'N',
+        }
+    }
+
+    pub fn entry(&self, stamp: u64) -> Vec<u8> {
+        [
+            b"O".as_slice(),
+            &stamp.to_be_bytes(),
+            &token(self.token),
+            &[self.side],
+            &self.shares.to_be_bytes(),
+            &self.stock,
+            &self.price.to_be_bytes(),
+            &self.time_in_force.to_be_bytes(),
+            &self.firm,
+            &[self.display, self.capacity, self.sweep],
+            &self.minimum.to_be_bytes(),
+            &[self.cross],
+        ]
+        .concat()
+    }
+}
+
+/// A Replace of which a test changes what it is about.
+#[derive(Clone, Copy)]
+pub struct U {
+    pub existing: &'static str,
+    pub replacement: &'static str,
+    pub shares: u32,
+    pub price: u32,
+    pub time_in_force: u32,
+    pub display: u8,
+    pub sweep: u8,
+    pub minimum: u32,
+}
+
+impl U {
+    pub fn good(existing: &'static str, replacement: &'static str, shares: u32) -> U {
+        U {
+            existing,
+            replacement,
+            shares,
+            price: 2_000_000,
+            time_in_force: 60,
+            display: b'Y',
+            sweep: b'y',
+            minimum: 0,
+        }
+    }
+
+    pub fn entry(&self, stamp: u64) -> Vec<u8> {
+        [
+            b"U".as_slice(),
+            &stamp.to_be_bytes(),
+            &token(self.existing),
+            &token(self.replacement),
+            &self.shares.to_be_bytes(),
+            &self.price.to_be_bytes(),
+            &self.time_in_force.to_be_bytes(),
+            &[self.display, self.sweep],
+            &self.minimum.to_be_bytes(),
+        ]
+        .concat()
+    }
+}
+
+pub fn replace(
+    stamp: u64,
+    existing: &'static str,
+    replacement: &'static str,
+    shares: u32,
+) -> Vec<u8> {
+    U::good(existing, replacement, shares).entry(stamp)
+}
+
+pub fn cancel(stamp: u64, name: &str, size: u32) -> Vec<u8> {
+    [
+        &token_only(b'X', stamp, name),
+        size.to_be_bytes().as_slice(),
+    ]
+    .concat()
+}
+
+pub fn modify(stamp: u64, name: &str, side: u8, shares: u32) -> Vec<u8> {
+    [
+        &token_only(b'M', stamp, name),
+        [side].as_slice(),
+        &shares.to_be_bytes(),
+    ]
+    .concat()
+}
+
+pub fn execution(stamp: u64, name: &str, shares: u32) -> Vec<u8> {
+    [
+        &token_only(b'e', stamp, name),
+        shares.to_be_bytes().as_slice(),
+        &1_111_u32.to_be_bytes(),
+        b"R",
+        &77_u64.to_be_bytes(),
+    ]
+    .concat()
+}
+
+pub fn book_cancel(stamp: u64, name: &str, shares: u32) -> Vec<u8> {
+    [
+        &token_only(b'c', stamp, name),
+        shares.to_be_bytes().as_slice(),
+        b"T",
+    ]
+    .concat()
+}
+
+pub fn self_match(stamp: u64, name: &str, shares: u32) -> Vec<u8> {
+    [
+        &token_only(b'q', stamp, name),
+        shares.to_be_bytes().as_slice(),
+        &60_u32.to_be_bytes(),
+        &2_222_u32.to_be_bytes(),
+        b"k",
+    ]
+    .concat()
+}
+
+pub fn priority(stamp: u64, name: &str, price: u32) -> Vec<u8> {
+    [
+        &token_only(b'p', stamp, name),
+        price.to_be_bytes().as_slice(),
+    ]
+    .concat()
+}
+
+/// l and f, and the opening of the others.
+pub fn token_only(kind: u8, stamp: u64, name: &str) -> Vec<u8> {
+    [[kind].as_slice(), &stamp.to_be_bytes(), &token(name)].concat()
+}
+
+pub fn system(stamp: u64, code: u8) -> Vec<u8> {
+    [b"s".as_slice(), &stamp.to_be_bytes(), &[code]].concat()
+}
+
+/// Messages as a test expects them.
+pub fn canceled(stamp: u64, name: &str, decrement: u32, reason: u8) -> Vec<u8> {
+    [
+        &token_only(b'C', stamp, name),
+        decrement.to_be_bytes().as_slice(),
+        &[reason],
+    ]
+    .concat()
+}
+
+pub fn rejected(stamp: u64, name: &str, reason: u8) -> Vec<u8> {
+    [&token_only(b'J', stamp, name), [reason].as_slice()].concat()
+}
+
+pub fn modified(stamp: u64, name: &str, side: u8, shares: u32) -> Vec<u8> {
+    [
+        &token_only(b'M', stamp, name),
+        [side].as_slice(),
+        &shares.to_be_bytes(),
+    ]
+    .concat()
+}
