@@ -15,23 +15,22 @@ use Rattle.host.proofs.Day.{Ready, Streams, streams}
 use Rattle.host.proofs.Progress.{never-blocked, patient-through}
 
 module _ (t : List ℕ) (settings : Settings) (typed : length (settings .firms) ≡ 32) (taken : freshAnswer t settings ≡ Done)
-  (ring : List ℕ) (m : Marks) (right : ringGood (length ring) m ≡ true) (empty : m .held ≡ 0)
+    (ring : List ℕ) (m : Marks) (right : ringGood (length ring) m ≡ true) (empty : m .held ≡ 0)
   where
+    abbrev pub start : World
+    start = world (freshTable t settings) ring m
 
-  abbrev pub start : World
-  start = world (freshTable t settings) ring m
+    ready : Ready start
+    ready = record { table = fresh-sound t settings typed taken; ring = right }
 
-  ready : Ready start
-  ready = record { table = fresh-sound t settings typed taken; ring = right }
+    -- released bytes followed by held bytes are the messages that unlimited room would give; the other answers and the final table agree
+    pub whole-day : (ss : List (List ℕ)) (todo : List Action) → run start ss todo .left ≡ [] → Streams (unlimited (freshTable t settings) ss) (run start ss todo)
+    whole-day ss todo through = streams start ss todo ready empty through
 
-  -- released bytes followed by held bytes are the messages that unlimited room would give; the other answers and the final table agree
-  pub whole-day : (ss : List (List ℕ)) (todo : List Action) → run start ss todo .left ≡ [] → Streams (unlimited (freshTable t settings) ss) (run start ss todo)
-  whole-day ss todo through = streams start ss todo ready empty through
+    -- an entry offered to the empty outbox is not blocked
+    pub first-taken : (s : List ℕ) → isBlocked (step start s .answer) ≡ false
+    first-taken s = never-blocked start s ready empty
 
-  -- an entry offered to the empty outbox is not blocked
-  pub first-taken : (s : List ℕ) → isBlocked (step start s .answer) ≡ false
-  first-taken s = never-blocked start s ready empty
-
-  -- and some schedule gets through
-  pub some-schedule : (ss : List (List ℕ)) → run start ss (patient start ss) .left ≡ []
-  some-schedule ss = patient-through ss start ready
+    -- and some schedule gets through
+    pub some-schedule : (ss : List (List ℕ)) → run start ss (patient start ss) .left ≡ []
+    some-schedule ss = patient-through ss start ready

@@ -169,26 +169,25 @@ written-at t place other stamp p h = by (isUsed (p .changed)) refl
     by false u = rw u
 
 module _ (w : World) (s : List ℕ) (d : Decision) (done : isDone (d .answer) ≡ true) (place stamp len : ℕ) (bytes : List ℕ)
-  (stamped : stamp ≡ stampOf s)
-  (long : len ≡ length (message stamp (d .plan)))
-  (spelled : take len bytes ≡ message stamp (d .plan))
-  (room : len ≤ length (w .ring) - w .marks .held)
-  (named : isUsed (d .plan .changed) ≡ true → place ≡ placeOf (w .table) (tokenOf s))
+    (stamped : stamp ≡ stampOf s)
+    (long : len ≡ length (message stamp (d .plan)))
+    (spelled : take len bytes ≡ message stamp (d .plan))
+    (room : len ≤ length (w .ring) - w .marks .held)
+    (named : isUsed (d .plan .changed) ≡ true → place ≡ placeOf (w .table) (tokenOf s))
   where
+    fits : length (message (stampOf s) (d .plan)) ≤ length (w .ring) - w .marks .held
+    fits = subst (λ (n : ℕ). n ≤ length (w .ring) - w .marks .held) (long ∙ ap (λ (n : ℕ). length (message n (d .plan))) stamped) room
 
-  fits : length (message (stampOf s) (d .plan)) ≤ length (w .ring) - w .marks .held
-  fits = subst (λ (n : ℕ). n ≤ length (w .ring) - w .marks .held) (long ∙ ap (λ (n : ℕ). length (message n (d .plan))) stamped) room
-
-  pub leaves-done : {m : Marks} {t r : List ℕ} → m ≡ marksWith (w .marks) len → t ≡ written (w .table) place stamp (d .plan)
-      → r ≡ ringWith (w .ring) (w .marks) (take len bytes) → Leaves (settle w s d) Done m t r
-  unfolding worldAfter tableAfter
-  leaves-done {m} {t} {r} em et er =
-      let e = sym (settle-done w s d done fits) in
-      record {
-        answered = ap (λ (q : Outcome). q .answer) e;
-        marked = em ∙ ap (marksWith (w .marks)) (long ∙ ap (λ (n : ℕ). length (message n (d .plan))) stamped) ∙ ap (λ (q : Outcome). q .world .marks) e;
-        tabled = et ∙ written-at (w .table) place (placeOf (w .table) (tokenOf s)) stamp (d .plan) named
-            ∙ ap (λ (n : ℕ). written (w .table) (placeOf (w .table) (tokenOf s)) n (d .plan)) stamped
-            ∙ ap (λ (q : Outcome). q .world .table) e;
-        ringed = er ∙ ap (ringWith (w .ring) (w .marks)) (spelled ∙ ap (λ (n : ℕ). message n (d .plan)) stamped) ∙ ap (λ (q : Outcome). q .world .ring) e;
-      }
+    pub leaves-done : {m : Marks} {t r : List ℕ} → m ≡ marksWith (w .marks) len → t ≡ written (w .table) place stamp (d .plan)
+        → r ≡ ringWith (w .ring) (w .marks) (take len bytes) → Leaves (settle w s d) Done m t r
+    unfolding worldAfter tableAfter
+    leaves-done {m} {t} {r} em et er =
+        let e = sym (settle-done w s d done fits) in
+        record {
+          answered = ap (λ (q : Outcome). q .answer) e;
+          marked = em ∙ ap (marksWith (w .marks)) (long ∙ ap (λ (n : ℕ). length (message n (d .plan))) stamped) ∙ ap (λ (q : Outcome). q .world .marks) e;
+          tabled = et ∙ written-at (w .table) place (placeOf (w .table) (tokenOf s)) stamp (d .plan) named
+              ∙ ap (λ (n : ℕ). written (w .table) (placeOf (w .table) (tokenOf s)) n (d .plan)) stamped
+              ∙ ap (λ (q : Outcome). q .world .table) e;
+          ringed = er ∙ ap (ringWith (w .ring) (w .marks)) (spelled ∙ ap (λ (n : ℕ). message n (d .plan)) stamped) ∙ ap (λ (q : Outcome). q .world .ring) e;
+        }

@@ -116,14 +116,13 @@ module _ (t s : List ℕ) (ok : sound t ≡ true) (done : isDone (comesTo t s .a
 
   pub changed-fit : Change named (p .notice) (p .changed) → isUsed (p .changed) ≡ true → Fit (p .changed) × HasRecord t place
   changed-fit (unchanged e) u = absurd (false≢true (sym none-unused ∙ ap isUsed (sym e) ∙ u))
-  changed-fit (changed c) u =
-      (
-        record {
-          shaped = c .shaped;
-          good = standing-good (p .changed) (c .standing) (ap legalToken (c .token) ∙ named-legal (c .alive));
-        },
-        used-there t (sound-fit t S) place (named-used t (tokenOf s) (c .alive)),
-      )
+  changed-fit (changed c) u = (
+    record {
+      shaped = c .shaped;
+      good = standing-good (p .changed) (c .standing) (ap legalToken (c .token) ∙ named-legal (c .alive));
+    },
+    used-there t (sound-fit t S) place (named-used t (tokenOf s) (c .alive)),
+  )
 
   -- after the named order
   abbrev one : List ℕ

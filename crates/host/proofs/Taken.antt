@@ -179,8 +179,7 @@ module _ (t s : List ℕ) (ok : Sound t) (w : wellFormed s ≡ true) (legal : al
   unfolding enterOf enterOrderOf messageIn layoutFor tokenOf
   enter-kept e =
       let n = well-long s 79 e w in
-      let l : length (drop 8 s) ≡ 48 = length-drop 8 s ∙ omega (arith, n) in
-      (
+      let l : length (drop 8 s) ≡ 48 = length-drop 8 s ∙ omega (arith, n) in (
         enterOf s .token,
         (
           record {
@@ -188,20 +187,19 @@ module _ (t s : List ℕ) (ok : Sound t) (w : wellFormed s ≡ true) (legal : al
             legal = ap legalToken (part-in s 1 14) ∙ entered-legal s w legal e;
           },
           enter-keeps h o (enterOf s) (holds t ok)
-          (record {
-            token = length-part (drop 8 s) 1 14 (omega (arith, l));
-            stock = length-part (drop 8 s) 20 8 (omega (arith, l));
-            firm = length-part (drop 8 s) 36 4 (omega (arith, l));
-          })
-        )
+              (record {
+                token = length-part (drop 8 s) 1 14 (omega (arith, l));
+                stock = length-part (drop 8 s) 20 8 (omega (arith, l));
+                firm = length-part (drop 8 s) 36 4 (omega (arith, l));
+              }),
+        ),
       )
 
   replace-kept : kindOf s ≡ 85 → Kept o (replaceRule h o (orderNamed t (replaceOf s .replacement)) (replaceOf s))
   unfolding replaceOf replaceOrderOf messageIn layoutFor tokenOf
   replace-kept e =
       let n = well-long s 85 e w in
-      let l : length (drop 8 s) ≡ 47 = length-drop 8 s ∙ omega (arith, n) in
-      (
+      let l : length (drop 8 s) ≡ 47 = length-drop 8 s ∙ omega (arith, n) in (
         replaceOf s .replacement,
         (
           record {
@@ -209,9 +207,9 @@ module _ (t s : List ℕ) (ok : Sound t) (w : wellFormed s ≡ true) (legal : al
             legal = ap legalToken (part-in s 15 14) ∙ replaced-legal s w legal e;
           },
           replace-keeps h o (orderNamed t (replaceOf s .replacement)) (replaceOf s) (holds t ok) sane shaped
-          (length-part (drop 8 s) 15 14 (omega (arith, l)))
-          (λ alive. part-in s 1 14 ∙ sym (named-token t (tokenOf s) alive))
-        )
+              (length-part (drop 8 s) 15 14 (omega (arith, l)))
+              (λ alive. part-in s 1 14 ∙ sym (named-token t (tokenOf s) alive)),
+        ),
       )
 
   market-kept : Kept o (decideMarket h o s)

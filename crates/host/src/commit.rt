@@ -5,7 +5,6 @@ use table::order::Order;
 use table::order::is_used;
 use table::places::store_header;
 use table::places::store_order;
-
 ghost use mathlib.Core.Path.{_≡_};
 ghost use mathlib.Core.Bool.{true};
 ghost use Prim.Native.Nat.{_+_, _<_, _≤_};

@@ -1,15 +1,15 @@
 // What an entry comes to, from the table and the entry alone: no function here is given the ring.
 use answers::Answer;
 use answers::number;
+use market::cross::cross_done;
+use market::cross::late;
+use market::day::system;
+use market::priority::priority;
+use market::taken::book_cancel;
+use market::taken::execution;
+use market::taken::self_match;
 use rules::cancel::cancel;
 use rules::enter::enter;
-use market::taken::book_cancel;
-use market::cross::cross_done;
-use market::taken::execution;
-use market::cross::late;
-use market::priority::priority;
-use market::taken::self_match;
-use market::day::system;
 use rules::modify::modify;
 use rules::plan::Decision;
 use rules::plan::refused;
@@ -29,7 +29,6 @@ use tape::reading::priority_of;
 use tape::reading::replace_of;
 use tape::reading::self_match_of;
 use tape::reading::system_of;
-
 ghost use mathlib.Core.Path.{_≡_};
 ghost use mathlib.Core.Bool.{true};
 ghost use Prim.Native.Nat.{_≤_};

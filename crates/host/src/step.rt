@@ -1,8 +1,8 @@
 // One step: judge, read, decide, ask for room, write. Nothing is written before the last question is answered, so a refusal changes nothing.
-use answers::Answer;
-use answers::number;
 use crate::commit::commit;
 use crate::decide::comes_to;
+use answers::Answer;
+use answers::number;
 use outbox::marks::Marks;
 use outbox::marks::ring_good;
 use outbox::put::append;
@@ -17,7 +17,6 @@ use tape::judging::judge;
 use tape::kinds::kind_of;
 use tape::reading::stamp_of;
 use tape::reading::token_of;
-
 ghost use mathlib.Core.Path.{_≡_};
 ghost use mathlib.Core.Bool.{true};
 ghost use Prim.Native.Nat.{_≤_};

@@ -86,7 +86,8 @@ fn call_step(table: &mut [u8], ring: &mut [u8], present: Present) -> Present {
         let marks = present.marks;
         let stepped = step(table, ring, marks, &entry[0..n]);
         let after = stepped.marks;
-        tell_answer(stepped.answer);
+        let answer = stepped.answer;
+        tell_answer(answer);
         tell_marks(after);
         tell(table);
         tell(ring);
@@ -103,7 +104,8 @@ fn call_release(present: Present) -> Present {
     let marks = present.marks;
     let moved = release(present.ring, marks, k as usize);
     let after = moved.marks;
-    tell_answer(moved.answer);
+    let answer = moved.answer;
+    tell_answer(answer);
     tell_marks(after);
     marked(present, after)
 }

@@ -5,6 +5,7 @@ mod settings;
 use crate::settings::settings_given;
 use answers::number;
 use echo::echo;
+use host::step::step;
 use outbox::marks::Marks;
 use outbox::read::read;
 use outbox::release::release;
@@ -17,7 +18,8 @@ ghost use Rattle.answers.specs.Answer.{answerNumber};
 ghost use Rattle.table.specs.Fresh.{freshAnswer, freshTable};
 ghost use Rattle.outbox.specs.Outbox.{readRun, releaseAnswer, releaseMarks};
 ghost use Rattle.echo.specs.Echo.{messageAnswer, messageEchoed};
-ghost use Rattle.port.specs.Door.{marks, settingsGiven};
+ghost use Rattle.host.specs.Step.{step, world};
+ghost use Rattle.port.specs.Door.{marks, settingsGiven, Left};
 
 // A fresh table from threshold and firms, 4 bytes each, one after the other.
 #[no_mangle]
@@ -25,6 +27,33 @@ pub extern "C" fn pq_fresh(table: &mut [u8], threshold: u32, firms: &[u8]) -> u8
     ensures { λ r. ⌜ (r ≡ answerNumber (freshAnswer (now (table .entry)) (settingsGiven threshold (now (firms .entry))))) × (now (table .exit) ≡ freshTable (now (table .entry)) (settingsGiven threshold (now (firms .entry)))) ⌝ }
 {
     number(fresh(table, settings_given(threshold, firms)))
+}
+
+// One entry. The marks stand behind two pointers.
+#[no_mangle]
+pub extern "C" fn pq_step(
+    table: &mut [u8],
+    ring: &mut [u8],
+    at: &mut usize,
+    held: &mut usize,
+    entry: &[u8],
+) -> u8
+    ensures { λ r. ⌜ Left (step (world (now (table .entry)) (now (ring .entry)) (marks (now (at .entry)) (now (held .entry)))) (now (entry .entry))) r (now (table .exit)) (now (ring .exit)) (marks (now (at .exit)) (now (held .exit))) ⌝ }
+{
+    let stepped = step(
+        table,
+        ring,
+        Marks {
+            at: *at,
+            held: *held,
+        },
+        entry,
+    );
+    let after = stepped.marks;
+    *at = after.at;
+    *held = after.held;
+    let answer = stepped.answer;
+    number(answer)
 }
 
 // How many bytes there are to read at the read place.

@@ -1,4 +1,6 @@
 // Plays the tape on standard input through a fresh host and prints what each entry came to.
+ghost use Prim.Native.Nat.{_≤_};
+ghost use lib.ListN.{length};
 use answers::number;
 use feed::held::Held;
 use feed::held::next_entry;
@@ -18,9 +20,8 @@ use outbox::release::release;
 use std::num::wrapping_add_u64;
 use tape::kinds::kind_of;
 
-// What is carried from entry to entry. No tape is long enough for its counts to wrap.
-struct Run {
-    held: Held,
+// What the entries so far came to. No tape is long enough for a count to wrap.
+struct Tally {
     marks: Marks,
     entries: u64,
     taken: u64,
@@ -28,71 +29,100 @@ struct Run {
     going: bool,
 }
 
-fn print(shown: Shown) {
+// What is carried from entry to entry.
+struct Run {
+    held: Held,
+    tally: Tally,
+}
+
+fn print(shown: Shown)
+    requires { ⌜ shown .len ≤ length (shown .bytes) ⌝ }
+{
     let bytes = shown.bytes;
     let len = shown.len;
-    if len <= 64 {
-        io::write_all(STDOUT_FILENO, &bytes[0..len]);
-    }
+    io::write_all(STDOUT_FILENO, &bytes[0..len]);
 }
 
 fn begun() -> Run {
     Run {
         held: Held { at: 0, end: 0 },
-        marks: Marks { at: 0, held: 0 },
-        entries: 0,
-        taken: 0,
-        sent: 0,
-        going: true,
+        tally: Tally {
+            marks: Marks { at: 0, held: 0 },
+            entries: 0,
+            taken: 0,
+            sent: 0,
+            going: true,
+        },
     }
 }
 
-// One entry: played, shown, and the ring emptied. The answer 2 is given to what is no whole entry alone, and ends the list.
+fn ended(tally: Tally) -> Tally {
+    let marks = tally.marks;
+    Tally {
+        marks,
+        entries: tally.entries,
+        taken: tally.taken,
+        sent: tally.sent,
+        going: false,
+    }
+}
+
+// One entry is played and shown, and the ring emptied. The answer 2 is given to what is no whole entry alone, and ends the list.
+fn play_entry(table: &mut [u8], ring: &mut [u8], entry: &[u8], tally: Tally) -> Tally {
+    let marks = tally.marks;
+    let stepped = step(table, ring, marks, entry);
+    let after = stepped.marks;
+    let given = stepped.answer;
+    let answer = number(given);
+    let entries = wrapping_add_u64(tally.entries, 1);
+    print(line(
+        entries,
+        kind_of(entry),
+        answer,
+        type_shown(read(ring, after)),
+    ));
+    let emptied = release(ring.len(), after, after.held);
+    let marks = emptied.marks;
+    Tally {
+        marks,
+        entries,
+        taken: wrapping_add_u64(tally.taken, (answer == 0) as u64),
+        sent: wrapping_add_u64(tally.sent, after.held as u64),
+        going: answer != 2,
+    }
+}
+
+// The next entry, where there is one.
 fn turn(table: &mut [u8], ring: &mut [u8], tape: &mut [u8], run: Run) -> Run {
     let before = run.held;
-    let marks = run.marks;
+    let tally = run.tally;
     let held = ready(tape, before);
     let entry = next_entry(unread(tape, held));
     let n = entry.len();
     if n == 0 {
         return Run {
             held,
-            marks,
-            entries: run.entries,
-            taken: run.taken,
-            sent: run.sent,
-            going: false,
+            tally: ended(tally),
         };
     }
-    let stepped = step(table, ring, marks, entry);
-    let after = stepped.marks;
-    let answer = stepped.answer;
-    let code = number(answer);
-    let entries = wrapping_add_u64(run.entries, 1);
-    print(line(entries, kind_of(entry), code, type_shown(read(ring, after))));
-    let emptied = release(ring.len(), after, after.held);
-    let marks = emptied.marks;
     Run {
         held: past(held, n),
-        marks,
-        entries,
-        taken: wrapping_add_u64(run.taken, (code == 0) as u64),
-        sent: wrapping_add_u64(run.sent, after.held as u64),
-        going: code != 2,
+        tally: play_entry(table, ring, entry, tally),
     }
 }
 
 // A proved loop has to end, and nothing says that the input does: the turns are counted down from more than any input has.
-fn play(table: &mut [u8], ring: &mut [u8], tape: &mut [u8]) -> Run {
+fn play(table: &mut [u8], ring: &mut [u8], tape: &mut [u8]) -> Tally {
     let mut turns = u64::MAX;
     let mut run = begun();
     let mut going = true;
     while 0 < turns && going {
         run = turn(table, ring, tape, run);
-        going = run.going;
+        let tally = run.tally;
+        going = tally.going;
         turns -= 1;
     }
-    run
+    run.tally
 }
 
 fn main() {
@@ -101,6 +131,6 @@ fn main() {
     let mut tape = [0u8; 4_096];
     desk::open(&mut table);
     io::write_all(STDOUT_FILENO, &FIRST_LINE);
-    let run = play(&mut table, &mut ring, &mut tape);
-    print(last_line(run.taken, run.sent));
+    let tally = play(&mut table, &mut ring, &mut tape);
+    print(last_line(tally.taken, tally.sent));
 }

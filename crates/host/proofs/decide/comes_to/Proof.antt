@@ -17,8 +17,7 @@ decide-requires : tie.Need-decide-requires
 unfolding orderNamed
 decide-requires c κs =
     let start = c .before .before .before in
-    let t = start .args .table .now in
-    (
+    let t = start .args .table .now in (
       start .pre .0,
       (
         start .pre .1 .0,

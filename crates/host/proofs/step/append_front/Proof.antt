@@ -30,8 +30,7 @@ returns c =
     let n = start .args .len in
     let l = start .args .bytes .now in
     let part : take (n - 0) (drop 0 l) ≡ take n l = ap (λ (k : ℕ). take k l) (sub-zero n) in
-    let e = length-take-le n l (start .pre .1 .1) in
-    (
+    let e = length-take-le n l (start .pre .1 .1) in (
       c .before .before .append .ensures .0 ∙ ap (marksWith (start .args .marks)) (ap length part ∙ e),
       c .before .before .append .ensures .1 ∙ ap (ringWith (start .args .ring .now) (start .args .marks)) part,
     )

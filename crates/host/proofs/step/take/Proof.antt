@@ -54,13 +54,12 @@ settle-requires c κs =
     let h : header t .last ≤ stampOf s = omega (arith, c .before .before .before .before .before .before .before .before .stamp-of .ensures, b, c .before .before .before .before .before .before .if1 .left) in
     let is = c .before .before .comes-to .ensures in
     let comes = comes-decided t s (start .pre .1 .1) h in
-    let ten = stamp-fits s (well-formed t s (start .pre .1 .1)) in
-    (
+    let ten = stamp-fits s (well-formed t s (start .pre .1 .1)) in (
       (start .pre .1 .0, omega (arith, ten)),
       λ done.
-      let d = ap (λ (q : Decision). isDone (q .answer)) (comes ∙ sym is) ∙ done in
-      subst (λ (q : Decision). Writable t (c .before .before .before .before .before .before .before .before .before .header .result) (c .before .before .before .before .place-named .result) s (q .plan)) (sym (P t s (start .pre .0) d .is) ∙ comes ∙ sym is)
-      (writable t s (start .pre .0) d _ _ (c .before .before .before .before .before .before .before .before .before .header .ensures) (c .before .before .before .before .place-named .ensures)),
+          let d = ap (λ (q : Decision). isDone (q .answer)) (comes ∙ sym is) ∙ done in
+          subst (λ (q : Decision). Writable t (c .before .before .before .before .before .before .before .before .before .header .result) (c .before .before .before .before .place-named .result) s (q .plan)) (sym (P t s (start .pre .0) d .is) ∙ comes ∙ sym is)
+          (writable t s (start .pre .0) d _ _ (c .before .before .before .before .before .before .before .before .before .header .ensures) (c .before .before .before .before .place-named .ensures)),
     )
 
 same-length-2 : tie.Need-same-length-2
