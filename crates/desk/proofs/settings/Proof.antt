@@ -1,0 +1,13 @@
+-- The text and its zeros compute to the firms' bytes. Assumes nothing.
+use mathlib.Core.Path.{refl}
+use Rattle.octets.specs.Choice.{text}
+use Rattle.desk.specs.Desk.{deskSettings}
+use Rattle.desk.proofs.settings.Statement.{statement}
+use Rattle.desk.proofs.settings.Tie as tie
+
+returns : tie.Need-returns
+unfolding deskSettings text
+returns c = refl
+
+pub settings-spec : {M : Type 1} → statement M
+settings-spec = tie.close (tie.spec returns)

@@ -1,0 +1,95 @@
+// The door for C: five functions over lent memory. Each hands its arguments to a proved function and an answer's number back, and asks
+// nothing that a C caller could break but that its pointers and lengths are true.
+mod settings;
+
+use crate::settings::settings_given;
+use answers::number;
+use echo::echo;
+use host::step::step;
+use outbox::marks::Marks;
+use outbox::read::read;
+use outbox::release::release;
+use table::fresh::fresh;
+ghost use mathlib.Core.Path.{_≡_};
+ghost use mathlib.Core.Bool.{not};
+ghost use lib.Dec.{eqb};
+ghost use lib.ListN.{length};
+ghost use Rattle.answers.specs.Answer.{answerNumber};
+ghost use Rattle.table.specs.Fresh.{freshAnswer, freshTable};
+ghost use Rattle.outbox.specs.Outbox.{readRun, releaseAnswer, releaseMarks};
+ghost use Rattle.echo.specs.Echo.{messageAnswer, messageEchoed};
+ghost use Rattle.host.specs.Step.{step, world};
+ghost use Rattle.port.specs.Door.{marks, settingsGiven, Left};
+
+// A fresh table from threshold and firms, 4 bytes each, one after the other.
+#[no_mangle]
+pub extern "C" fn pq_fresh(table: &mut [u8], threshold: u32, firms: &[u8]) -> u8
+    ensures { λ r. ⌜ (r ≡ answerNumber (freshAnswer (now (table .entry)) (settingsGiven threshold (now (firms .entry))))) × (now (table .exit) ≡ freshTable (now (table .entry)) (settingsGiven threshold (now (firms .entry)))) ⌝ }
+{
+    number(fresh(table, settings_given(threshold, firms)))
+}
+
+// One entry. The marks stand behind two pointers.
+#[no_mangle]
+pub extern "C" fn pq_step(
+    table: &mut [u8],
+    ring: &mut [u8],
+    at: &mut usize,
+    held: &mut usize,
+    entry: &[u8],
+) -> u8
+    ensures { λ r. ⌜ Left (step (world (now (table .entry)) (now (ring .entry)) (marks (now (at .entry)) (now (held .entry)))) (now (entry .entry))) r (now (table .exit)) (now (ring .exit)) (marks (now (at .exit)) (now (held .exit))) ⌝ }
+{
+    let stepped = step(
+        table,
+        ring,
+        Marks {
+            at: *at,
+            held: *held,
+        },
+        entry,
+    );
+    let after = stepped.marks;
+    *at = after.at;
+    *held = after.held;
+    let answer = stepped.answer;
+    number(answer)
+}
+
+// How many bytes there are to read at the read place.
+#[no_mangle]
+pub extern "C" fn pq_read(ring: &[u8], at: usize, held: usize) -> usize
+    ensures { λ r. ⌜ r ≡ length (readRun (now (ring .entry)) (marks at held)) ⌝ }
+{
+    let run = read(ring, Marks { at, held });
+    run.len()
+}
+
+// The oldest k bytes of a ring of n are given up.
+#[no_mangle]
+pub extern "C" fn pq_release(n: usize, at: &mut usize, held: &mut usize, k: usize) -> u8
+    ensures { λ r. ⌜ r ≡ answerNumber (releaseAnswer n (marks (now (at .entry)) (now (held .entry))) k) ⌝ }
+    ensures { λ _. ⌜ marks (now (at .exit)) (now (held .exit)) ≡ releaseMarks n (marks (now (at .entry)) (now (held .entry))) k ⌝ }
+{
+    let moved = release(
+        n,
+        Marks {
+            at: *at,
+            held: *held,
+        },
+        k,
+    );
+    let after = moved.marks;
+    *at = after.at;
+    *held = after.held;
+    let answer = moved.answer;
+    number(answer)
+}
+
+// A message read, as inbound where `inbound` is not 0, and written back into `out`.
+#[no_mangle]
+pub extern "C" fn pq_echo(inbound: u8, message: &[u8], out: &mut [u8]) -> u8
+    ensures { λ r. ⌜ (r ≡ answerNumber (messageAnswer (not (eqb inbound 0)) (now (message .entry)) (now (out .entry)))) × (now (out .exit) ≡ messageEchoed (not (eqb inbound 0)) (now (message .entry)) (now (out .entry))) ⌝ }
+{
+    number(echo(inbound != 0, message, out))
+}

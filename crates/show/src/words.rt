@@ -1,0 +1,76 @@
+// The pieces of a line.
+ghost use Prim.Native.Nat.{_≤_};
+use libc::STDOUT_FILENO;
+use listing::clock::clock;
+
+pub fn say(words: &[u8]) {
+    io::write_all(STDOUT_FILENO, words);
+}
+
+pub fn end_line() {
+    say(b"\n");
+}
+
+pub fn say_number(name: &[u8], n: u64) {
+    say(name);
+    io::print_decimal(STDOUT_FILENO, n);
+}
+
+// Letters and texts stand in quotes, since a space is one of them. Fields that nobody judges may hold any byte; what a terminal would act on is shown as a question mark.
+fn printable(b: u8) -> u8 {
+    if (b' ' <= b) & (b <= b'~') { b } else { b'?' }
+}
+
+pub fn say_letter(name: &[u8], b: u8) {
+    say(name);
+    say(&[b'\'', printable(b), b'\'']);
+}
+
+fn at_most_sixteen(n: usize) -> usize
+    ensures { λ r. ⌜ (r ≤ n) × (r ≤ 16) ⌝ }
+{
+    if n < 16 { n } else { 16 }
+}
+
+// At most sixteen bytes of a text, in quotes, with the spaces that fill its field.
+fn say_text(name: &[u8], text: &[u8]) {
+    say(name);
+    let mut shown = [b'\''; 18];
+    let mut i: usize = 0;
+    let n = at_most_sixteen(text.len());
+    while i < n {
+        shown[i + 1] = printable(text[i]);
+        i += 1;
+    }
+    say(&shown[0..n + 2]);
+}
+
+pub fn say_stamp(name: &[u8], stamp: u64) {
+    say(name);
+    say(&clock(stamp));
+}
+
+// Arrays by value: of one that was taken from a struct the length is not known otherwise.
+pub fn say_stock(stock: [u8; 8]) {
+    say_text(b" stock ", &stock);
+}
+
+pub fn say_firm(firm: [u8; 4]) {
+    say_text(b" firm ", &firm);
+}
+
+pub fn say_token(name: &[u8], token: [u8; 14]) {
+    say_text(name, &token);
+}
+
+// What most lines begin with.
+pub fn say_head(name: &[u8], stamp: u64, token: [u8; 14]) {
+    say_stamp(name, stamp);
+    say_token(b" ", token);
+}
+
+pub fn say_refused(name: &[u8], answer: u8) {
+    say(name);
+    say_number(b" refused with ", answer as u64);
+    end_line();
+}
