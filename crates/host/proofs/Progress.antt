@@ -1,12 +1,12 @@
 -- An entry offered to an empty outbox is never blocked, and so a driver that empties the outbox after each block gets through any list.
 -- Assumes nothing.
-use mathlib.Core.Path.{_≡_, refl, sym, ap, _∙_, subst}
+use mathlib.Core.Path.{_≡_, refl, sym, ap, ap₂, _∙_, subst}
 use mathlib.Core.Bool.{Bool, true, false, not, false≢true}
 use mathlib.Core.List.{List, [], _∷_}
 use Prim.Native.Nat.{ℕ, _-_, _≤_, _<_}
 use native.Mathlib.Nat.{le-refl, sub-self}
 use native.Mathlib.Omega.{arith}
-use borrow.Author.Tests.{le-ltb, eqb-true}
+use borrow.Author.Tests.{le-ltb, lt-ltb, ltb-true, eqb-true}
 use lib.Dec.{eqb}
 use lib.ListN.{length}
 use Rattle.octets.specs.Choice.{pick}
@@ -62,6 +62,12 @@ module _ (w : World) (s : List ℕ) (ok : Ready w) (none : w .marks .held ≡ 0)
   never-blocked =
       ap (λ (o : Outcome). isBlocked (o .answer)) (step-by w s)
       ∙ rw (ok .table, ok .ring) (by (isDone (comes w s .answer)) (noRoom w s (comes w s .plan)) refl refl)
+
+-- over a sound table and a right ring only two questions are left
+as-judged : (w : World) (s : List ℕ) → Ready w → step w s ≡ stepBy w s (comes w s) true true (isDone (comes w s .answer)) (noRoom w s (comes w s .plan))
+as-judged w s ok =
+    step-by w s
+    ∙ ap₂ (λ (t r : Bool). stepBy w s (comes w s) t r (isDone (comes w s .answer)) (noRoom w s (comes w s .plan))) (ok .table) (ok .ring)
 
 -- ---- what a step leaves behind, ready for the next
 
@@ -123,3 +129,30 @@ patient-through (s ∷ ss) w ok =
         → run w (s ∷ ss) (pick b (offerNext ∷ release (w .marks .held) ∷ offerNext ∷ patient (step (emptied w) s .world) ss) (offerNext ∷ patient (step w s .world) ss)) .left ≡ []
     by false e now later = rw e now
     by true e now later = rw (e, blocked-stays w s e) (again e later)
+
+-- ---- when an entry is blocked
+
+-- the answer is 9 exactly when all else is well and the message is longer than the room
+module _ (w : World) (s : List ℕ) (ok : Ready w) where
+  abbrev Crowded : Type 0
+  Crowded =
+      (isDone (comes w s .answer) ≡ true)
+      × (freeBytes (length (w .ring)) (w .marks) < length (message (stampOf s) (comes w s .plan)))
+
+  crowded : (done full : Bool) → isDone (comes w s .answer) ≡ done → noRoom w s (comes w s .plan) ≡ full
+      → isBlocked (stepBy w s (comes w s) true true done full .answer) ≡ true → Crowded
+  unfolding isBlocked noRoom
+  crowded false full e f b = absurd (false≢true (sym (unblocked (w .table) s) ∙ b))
+  crowded true true e f b = (e, ltb-true _ _ f)
+  crowded true false e f b = absurd (false≢true b)
+
+  pub blocked-only : isBlocked (step w s .answer) ≡ true → Crowded
+  blocked-only b =
+      crowded (isDone (comes w s .answer)) (noRoom w s (comes w s .plan)) refl refl
+      (ap (λ (o : Outcome). isBlocked (o .answer)) (sym (as-judged w s ok)) ∙ b)
+
+  pub crowded-blocked : Crowded → isBlocked (step w s .answer) ≡ true
+  unfolding isBlocked noRoom
+  crowded-blocked c =
+      ap (λ (o : Outcome). isBlocked (o .answer)) (as-judged w s ok)
+      ∙ ap₂ (λ (x y : Bool). isBlocked (stepBy w s (comes w s) true true x y .answer)) (c .0) (lt-ltb _ _ (c .1))
