@@ -1,8 +1,7 @@
 // Commands that call the host, and write what the call left.
 use crate::input::Got;
 use crate::input::filled;
-use crate::input::got;
-use crate::input::got_length;
+use crate::input::take;
 use crate::output::tell;
 use crate::output::tell_answer;
 use crate::output::tell_length;
@@ -17,10 +16,14 @@ use outbox::release::release;
 use table::fresh::fresh;
 use table::settings::Settings;
 
-// Entries and messages are at most so long in a script.
-const MOST: usize = 1_024;
-
-pub fn call(command: u64, table: &mut [u8], ring: &mut [u8], present: Present) -> Present {
+// Entries and messages are taken into the scratch, and are at most as long.
+pub fn call(
+    command: u64,
+    table: &mut [u8],
+    ring: &mut [u8],
+    scratch: &mut [u8],
+    present: Present,
+) -> Present {
     if table.len() < present.table {
         return stopped(present);
     }
@@ -33,7 +36,7 @@ pub fn call(command: u64, table: &mut [u8], ring: &mut [u8], present: Present) -
         return call_fresh(&mut table[0..t], present);
     }
     if command == b'S' as u64 {
-        return call_step(&mut table[0..t], &mut ring[0..r], present);
+        return call_step(&mut table[0..t], &mut ring[0..r], scratch, present);
     }
     if command == b'L' as u64 {
         return call_release(present);
@@ -42,17 +45,17 @@ pub fn call(command: u64, table: &mut [u8], ring: &mut [u8], present: Present) -
         return call_read(&ring[0..r], present);
     }
     if command == b'E' as u64 {
-        return call_echo(present);
+        return call_echo(scratch, present);
     }
     stopped(present)
 }
 
 // F: threshold in 4 bytes, count in 1, firms in 32.
 fn call_fresh(table: &mut [u8], present: Present) -> Present {
-    let Got::Number(threshold) = got(4) else {
+    let Got::Number(threshold) = take(4) else {
         return stopped(present);
     };
-    let Got::Number(count) = got(1) else {
+    let Got::Number(count) = take(1) else {
         return stopped(present);
     };
     let mut firms = [0u8; 32];
@@ -60,9 +63,9 @@ fn call_fresh(table: &mut [u8], present: Present) -> Present {
         let answer = fresh(
             table,
             Settings {
-                threshold: threshold as u32,
+                threshold: (threshold % 4_294_967_296) as u32,
                 firms,
-                count: count as u8,
+                count: (count % 256) as u8,
             },
         );
         tell_answer(answer);
@@ -73,32 +76,35 @@ fn call_fresh(table: &mut [u8], present: Present) -> Present {
 }
 
 // S: the entry's length in 2 bytes, and the entry.
-fn call_step(table: &mut [u8], ring: &mut [u8], present: Present) -> Present {
-    let mut entry = [0u8; 1_024];
-    let Got::Number(length) = got_length(2, MOST) else {
+fn call_step(table: &mut [u8], ring: &mut [u8], scratch: &mut [u8], present: Present) -> Present {
+    let Got::Number(length) = take(2) else {
         return stopped(present);
     };
     let n = length as usize;
-    if MOST < n {
+    if scratch.len() < n {
         return stopped(present);
     }
-    if filled(&mut entry[0..n]) {
-        let marks = present.marks;
-        let stepped = step(table, ring, marks, &entry[0..n]);
-        let after = stepped.marks;
-        let answer = stepped.answer;
-        tell_answer(answer);
-        tell_marks(after);
-        tell(table);
-        tell(ring);
-        return marked(present, after);
+    if filled(&mut scratch[0..n]) {
+        return step_on(table, ring, &scratch[0..n], present);
     }
     stopped(present)
 }
 
+fn step_on(table: &mut [u8], ring: &mut [u8], entry: &[u8], present: Present) -> Present {
+    let marks = present.marks;
+    let stepped = step(table, ring, marks, entry);
+    let answer = stepped.answer;
+    let after = stepped.marks;
+    tell_answer(answer);
+    tell_marks(after);
+    tell(table);
+    tell(ring);
+    marked(present, after)
+}
+
 // L: how many bytes, in 8.
 fn call_release(present: Present) -> Present {
-    let Got::Number(k) = got(8) else {
+    let Got::Number(k) = take(8) else {
         return stopped(present);
     };
     let marks = present.marks;
@@ -120,37 +126,40 @@ fn call_read(ring: &[u8], present: Present) -> Present {
 }
 
 // E: the direction in 1 byte, the message's length in 2, the message, the buffer's length in 2, and the byte that fills it.
-fn call_echo(present: Present) -> Present {
-    let Got::Number(inbound) = got(1) else {
+fn call_echo(scratch: &mut [u8], present: Present) -> Present {
+    let Got::Number(inbound) = take(1) else {
         return stopped(present);
     };
-    let Got::Number(length) = got_length(2, MOST) else {
+    let Got::Number(length) = take(2) else {
         return stopped(present);
     };
-    let mut message = [0u8; 1_024];
     let n = length as usize;
-    if MOST < n {
+    if scratch.len() < n {
         return stopped(present);
     }
-    if filled(&mut message[0..n]) {
-        return echo_back(inbound != 0, &message[0..n], present);
+    if filled(&mut scratch[0..n]) {
+        return echo_back(inbound != 0, &scratch[0..n], present);
     }
     stopped(present)
 }
 
 fn echo_back(inbound: bool, message: &[u8], present: Present) -> Present {
-    let Got::Number(length) = got_length(2, MOST) else {
+    let Got::Number(length) = take(2) else {
         return stopped(present);
     };
-    let Got::Number(fill) = got(1) else {
+    let Got::Number(fill) = take(1) else {
         return stopped(present);
     };
-    let mut out = [fill as u8; 1_024];
     let n = length as usize;
-    if MOST < n {
+    if 1_024 < n {
         return stopped(present);
     }
-    tell_answer(echo(inbound, message, &mut out[0..n]));
-    tell(&out[0..n]);
+    let mut out = [(fill % 256) as u8; 1_024];
+    echo_into(inbound, message, &mut out[0..n]);
     present
+}
+
+fn echo_into(inbound: bool, message: &[u8], out: &mut [u8]) {
+    tell_answer(echo(inbound, message, out));
+    tell(out);
 }

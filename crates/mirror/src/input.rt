@@ -13,26 +13,20 @@ pub fn filled(buffer: &mut [u8]) -> bool {
 }
 
 // A big-endian number of so many bytes, at most 8.
-pub fn got(width: usize) -> Got {
+pub fn take(width: usize) -> Got {
+    let mut bytes = [0u8; 8];
+    take_into(&mut bytes, width)
+}
+
+fn take_into(bytes: &mut [u8], width: usize) -> Got {
     if 8 < width {
         return Got::Nothing;
     }
-    let mut bytes = [0u8; 8];
+    if bytes.len() < width {
+        return Got::Nothing;
+    }
     if filled(&mut bytes[0..width]) {
-        return Got::Number(octets::number_at(&bytes, 0, width));
+        return Got::Number(octets::number_at(bytes, 0, width));
     }
     Got::Nothing
-}
-
-// A length, where it is at most `most`.
-pub fn got_length(width: usize, most: usize) -> Got {
-    match got(width) {
-        Got::Nothing => Got::Nothing,
-        Got::Number(n) => {
-            if n as usize <= most {
-                return Got::Number(n);
-            }
-            Got::Nothing
-        }
-    }
 }

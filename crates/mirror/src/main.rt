@@ -7,7 +7,7 @@ mod sets;
 
 use crate::calls::call;
 use crate::input::Got;
-use crate::input::got;
+use crate::input::take;
 use crate::present::Present;
 use crate::present::begun;
 use crate::present::stopped;
@@ -15,8 +15,8 @@ use crate::sets::set_ring;
 use crate::sets::set_table;
 
 // One command. What is no command, or is cut, ends the run.
-fn turn(table: &mut [u8], ring: &mut [u8], present: Present) -> Present {
-    match got(1) {
+fn turn(table: &mut [u8], ring: &mut [u8], scratch: &mut [u8], present: Present) -> Present {
+    match take(1) {
         Got::Nothing => stopped(present),
         Got::Number(command) => {
             if command == b'T' as u64 {
@@ -25,18 +25,18 @@ fn turn(table: &mut [u8], ring: &mut [u8], present: Present) -> Present {
             if command == b'R' as u64 {
                 return set_ring(ring, present);
             }
-            call(command, table, ring, present)
+            call(command, table, ring, scratch, present)
         }
     }
 }
 
 // A proved loop has to end, and nothing says that the input does: the turns are counted down from more than any input has.
-fn play(table: &mut [u8], ring: &mut [u8]) {
+fn play(table: &mut [u8], ring: &mut [u8], scratch: &mut [u8]) {
     let mut turns = u64::MAX;
     let mut present = begun();
     let mut going = true;
     while 0 < turns && going {
-        present = turn(table, ring, present);
+        present = turn(table, ring, scratch, present);
         going = present.going;
         turns -= 1;
     }
@@ -45,5 +45,6 @@ fn play(table: &mut [u8], ring: &mut [u8]) {
 fn main() {
     let mut table = [0u8; 64_064];
     let mut ring = [0u8; 65_536];
-    play(&mut table, &mut ring);
+    let mut scratch = [0u8; 1_024];
+    play(&mut table, &mut ring, &mut scratch);
 }
