@@ -126,8 +126,8 @@ fn play(table: &mut [u8], ring: &mut [u8], tape: &mut [u8]) -> Tally {
 }
 
 fn main() {
-    let mut table = [0u8; 64_064];
-    let mut ring = [0u8; 4_096];
+    let mut table = [0u8; desk::TABLE_SIZE];
+    let mut ring = [0u8; desk::RING_SIZE];
     let mut tape = [0u8; 4_096];
     desk::open(&mut table);
     io::write_all(STDOUT_FILENO, &FIRST_LINE);
