@@ -2,7 +2,7 @@
 -- through it. Assumes nothing.
 use mathlib.Core.Path.{_≡_}
 use mathlib.Core.Bool.{true, false}
-use mathlib.Core.List.{List, []}
+use mathlib.Core.List.{List, [], _++_}
 use Prim.Native.Nat.{ℕ}
 use lib.ListN.{length}
 use Rattle.table.specs.Fresh.{freshAnswer, freshTable}
@@ -11,7 +11,8 @@ use Rattle.outbox.specs.Outbox.{ringGood}
 use Rattle.host.specs.Types.{Done, Marks, Settings}
 use Rattle.host.specs.Step.{World, world, step}
 use Rattle.host.specs.Day.{Action, unlimited, isBlocked, run, patient}
-use Rattle.host.proofs.Day.{Ready, Streams, streams}
+use Rattle.host.proofs.Day.{Ready, bytes, Streams, streams}
+use Rattle.host.proofs.Stream.{WholeMessages, whole-messages}
 use Rattle.host.proofs.Progress.{never-blocked, patient-through}
 
 module _ (t : List ℕ) (settings : Settings) (typed : length (settings .firms) ≡ 32) (taken : freshAnswer t settings ≡ Done)
@@ -26,6 +27,11 @@ module _ (t : List ℕ) (settings : Settings) (typed : length (settings .firms) 
     -- released bytes followed by held bytes are the messages that unlimited room would give; the other answers and the final table agree
     pub whole-day : (ss : List (List ℕ)) (todo : List Action) → run start ss todo .left ≡ [] → Streams (unlimited (freshTable t settings) ss) (run start ss todo)
     whole-day ss todo through = streams start ss todo ready empty through
+
+    -- and those bytes, cut by the lengths that the types fix, are exactly the messages, each legal for its reader
+    pub all-whole : (ss : List (List ℕ)) (todo : List Action) → run start ss todo .left ≡ []
+        → WholeMessages (run start ss todo .released ++ bytes (run start ss todo .world)) (unlimited (freshTable t settings) ss .messages)
+    all-whole ss todo through = whole-messages start ss todo ready empty through
 
     -- an entry offered to the empty outbox is not blocked
     pub first-taken : (s : List ℕ) → isBlocked (step start s .answer) ≡ false

@@ -25,21 +25,9 @@ use Rattle.host.specs.Step.{World, Outcome, comesTo, noRoom, step, table
 use Rattle.host.specs.Day.{Action, offerNext, release, isBlocked, withMarks, run, offered, emptied, patient}
 use Rattle.host.proofs.Steps.{stepBy, step-by, comes, only-done-changes}
 use Rattle.host.proofs.Day.{Ready, ring-after}
-use Rattle.host.proofs.Sounds.{keeps, P, K}
+use Rattle.host.proofs.Sounds.{keeps}
+use Rattle.host.proofs.Sent.{short}
 use Rattle.host.proofs.Unblocked.{unblocked}
-use Rattle.rules.specs.Sent.{AtMostOne, silent, told}
-use Rattle.rules.proofs.Told.{at-most-one}
-
--- every message fits the shortest ring
-pub short : (t s : List ℕ) → sound t ≡ true → isDone (comesTo t s .answer) ≡ true → length (message (stampOf s) (comesTo t s .plan)) ≤ shortestRing
-short t s ok done =
-    let k = K t s ok done in
-    subst (λ (d : Decision). length (message (stampOf s) (d .plan)) ≤ shortestRing) (sym (P t s ok done .is))
-    (at-most (at-most-one (k .1 .1) (stampOf s) (k .1 .0 .long)))
-  where
-    at-most : {m : List ℕ} → AtMostOne m → length m ≤ shortestRing
-    at-most (silent e) = omega (arith, ap length e)
-    at-most (told k lo hi v e size most) = most
 
 -- ---- an empty outbox
 

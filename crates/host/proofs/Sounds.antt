@@ -25,6 +25,7 @@ use Rattle.table.proofs.Stored.{order-length, header-stays}
 use Rattle.table.proofs.Keeps.{OrderGood, order-keeps, records-after, same-records, same-size, header-keeps}
 use Rattle.tape.specs.Entries.{wellFormed, allLegal, stampOf, tokenOf}
 use Rattle.rules.specs.Sane.{Open, Spent, Standing, stillLive, nowDead, Shaped, Changed, Change, unchanged, changed, Born, Addition, nothing, rejected, entered, replacing, Keeps, HeaderHolds}
+use Rattle.rules.proofs.Shapes.{change-of, addition-of}
 use Rattle.host.specs.Types.{Decision, Plan, Order, Header}
 use Rattle.host.specs.Step.{oneIf, storeIf, headerAfter, written, tableAfter, noRecordFree, noReferenceLeft, decide, comesTo}
 use Rattle.host.proofs.Clipped.{clipped, stored-clipped, whole-clipped, good-clipped}
@@ -101,14 +102,14 @@ module _ (t s : List ℕ) (ok : sound t ≡ true) (done : isDone (comesTo t s .a
   abbrev pub named : Order
   named = orderNamed t (tokenOf s)
 
-  pub K : Kept named (decide t s)
+  pub K : Kept t named (decide t s)
   K = decide-keeps t s S (P .formed-is) (P .legal-is)
 
   abbrev pub place : ℕ
   place = placeOf t (tokenOf s)
 
   -- the order that the entry names has a legal token, where it is live
-  named-legal : isLive named ≡ true → legalToken (named .token) ≡ true
+  pub named-legal : isLive named ≡ true → legalToken (named .token) ≡ true
   unfolding orderAt
   named-legal alive =
       let h = named-used t (tokenOf s) alive in
@@ -139,7 +140,7 @@ module _ (t s : List ℕ) (ok : sound t ≡ true) (done : isDone (comesTo t s .a
     where
       by : (b : Bool) → isUsed (p .changed) ≡ b → Kept₁
       by true u =
-          let f = changed-fit (K .1 .1 .changed) u in
+          let f = changed-fit (change-of (K .1 .1 .shape)) u in
           record {
             long = rw u (stored-length t place (p .changed) (f .1) (f .0));
             head = rw u (stored-header t place (p .changed) (f .1) (f .0));
@@ -181,7 +182,7 @@ module _ (t s : List ℕ) (ok : sound t ≡ true) (done : isDone (comesTo t s .a
     where
       by : (b : Bool) → isUsed (p .added) ≡ b → Kept₂
       by true u =
-          let f = added-fit (p .added) (K .1 .0) (K .1 .1 .added) u in
+          let f = added-fit (p .added) (K .1 .0) (addition-of (K .1 .1 .shape)) u in
           let there : HasRecord one (h .used) = omega (arith, kept₁ .long, S .size .long, free-there u) in
           record {
             long = rw u (stored-length one (h .used) (p .added) there f ∙ kept₁ .long);

@@ -156,8 +156,9 @@ blank-new : NewToken blank
 unfolding blank allBelow tokenByte capital small digit
 blank-new = record { long = refl; legal = refl }
 
-abbrev pub Kept : Order → Decision → Type 0
-Kept o d = (token : List ℕ) × (NewToken token × Keeps o token d)
+-- of the order that the table t has under that token
+abbrev pub Kept : List ℕ → Order → Decision → Type 0
+Kept t o d = (token : List ℕ) × (NewToken token × Keeps o (orderNamed t token) token d)
 
 module _ (t s : List ℕ) (ok : Sound t) (w : wellFormed s ≡ true) (legal : allLegal s ≡ true) where
   abbrev h : Header
@@ -172,30 +173,32 @@ module _ (t s : List ℕ) (ok : Sound t) (w : wellFormed s ≡ true) (legal : al
   shaped : Shaped o
   shaped = named-shaped t (tokenOf s) ok
 
-  abbrev other : {d : Decision} → Keeps o blank d → Kept o d
+  abbrev unasked : Order
+  unasked = orderNamed t blank
+
+  abbrev other : {d : Decision} → Keeps o unasked blank d → Kept t o d
   other k = (blank, (blank-new, k))
 
-  enter-kept : kindOf s ≡ 79 → Kept o (enterRule h o (enterOf s))
+  enter-kept : kindOf s ≡ 79 → Kept t o (enterRule h o (enterOf s))
   unfolding enterOf enterOrderOf messageIn layoutFor tokenOf
   enter-kept e =
       let n = well-long s 79 e w in
-      let l : length (drop 8 s) ≡ 48 = length-drop 8 s ∙ omega (arith, n) in (
-        enterOf s .token,
+      let l : length (drop 8 s) ≡ 48 = length-drop 8 s ∙ omega (arith, n) in
+      let here : part (drop 8 s) 1 14 ≡ part s 9 14 = part-in s 1 14 in (
+        tokenOf s,
         (
-          record {
-            long = length-part (drop 8 s) 1 14 (omega (arith, l));
-            legal = ap legalToken (part-in s 1 14) ∙ entered-legal s w legal e;
-          },
-          enter-keeps h o (enterOf s) (holds t ok)
+          record { long = length-part s 9 14 (omega (arith, n)); legal = entered-legal s w legal e },
+          subst (λ (token : List ℕ). Keeps o o token (enterRule h o (enterOf s))) here
+              (enter-keeps h o (enterOf s) (holds t ok)
               (record {
                 token = length-part (drop 8 s) 1 14 (omega (arith, l));
                 stock = length-part (drop 8 s) 20 8 (omega (arith, l));
                 firm = length-part (drop 8 s) 36 4 (omega (arith, l));
-              }),
+              })),
         ),
       )
 
-  replace-kept : kindOf s ≡ 85 → Kept o (replaceRule h o (orderNamed t (replaceOf s .replacement)) (replaceOf s))
+  replace-kept : kindOf s ≡ 85 → Kept t o (replaceRule h o (orderNamed t (replaceOf s .replacement)) (replaceOf s))
   unfolding replaceOf replaceOrderOf messageIn layoutFor tokenOf
   replace-kept e =
       let n = well-long s 85 e w in
@@ -212,21 +215,21 @@ module _ (t s : List ℕ) (ok : Sound t) (w : wellFormed s ≡ true) (legal : al
         ),
       )
 
-  market-kept : Kept o (decideMarket h o s)
+  market-kept : Kept t o (decideMarket h o s)
   unfolding decideMarket
   market-kept =
-      guard (Kept o) (s isAn executionEntry) (λ _. other (execution-keeps h o (executionOf s) blank sane shaped)) λ _.
-      guard (Kept o) (s isAn bookCancelEntry) (λ _. other (book-cancel-keeps o (bookCancelOf s) blank sane shaped)) λ _.
-      guard (Kept o) (s isAn selfMatchEntry) (λ _. other (self-match-keeps h o (selfMatchOf s) blank sane shaped)) λ _.
-      guard (Kept o) (s isAn priorityEntry) (λ _. other (priority-keeps h o (priorityOf s) blank sane shaped)) λ _.
-      guard (Kept o) (s isAn lateEntry) (λ _. other (late-keeps h o blank sane shaped)) λ _.
-      guard (Kept o) (s isAn crossDoneEntry) (λ _. other (cross-done-keeps o blank sane shaped)) λ _.
-      guard (Kept o) (s isAn systemEntry) (λ _. other (system-keeps h (systemOf s) o blank)) λ _. other (refused-keeps Malformed)
+      guard (Kept t o) (s isAn executionEntry) (λ _. other (execution-keeps h o (executionOf s) unasked blank sane shaped)) λ _.
+      guard (Kept t o) (s isAn bookCancelEntry) (λ _. other (book-cancel-keeps o (bookCancelOf s) unasked blank sane shaped)) λ _.
+      guard (Kept t o) (s isAn selfMatchEntry) (λ _. other (self-match-keeps h o (selfMatchOf s) unasked blank sane shaped)) λ _.
+      guard (Kept t o) (s isAn priorityEntry) (λ _. other (priority-keeps h o (priorityOf s) unasked blank sane shaped)) λ _.
+      guard (Kept t o) (s isAn lateEntry) (λ _. other (late-keeps h o unasked blank sane shaped)) λ _.
+      guard (Kept t o) (s isAn crossDoneEntry) (λ _. other (cross-done-keeps o unasked blank sane shaped)) λ _.
+      guard (Kept t o) (s isAn systemEntry) (λ _. other (system-keeps h (systemOf s) o unasked blank)) λ _. other (refused-keeps Malformed)
 
-  pub decide-keeps : Kept o (decide t s)
+  pub decide-keeps : Kept t o (decide t s)
   unfolding decide
   decide-keeps =
-      guard (Kept o) (s isAn enterEntry) (λ e. enter-kept (eqb-true _ _ e)) λ _.
-      guard (Kept o) (s isAn replaceEntry) (λ e. replace-kept (eqb-true _ _ e)) λ _.
-      guard (Kept o) (s isAn cancelEntry) (λ _. other (cancel-keeps o (cancelOf s) blank sane shaped)) λ _.
-      guard (Kept o) (s isAn modifyEntry) (λ _. other (modify-keeps h o (modifyOf s) blank sane shaped)) λ _. market-kept
+      guard (Kept t o) (s isAn enterEntry) (λ e. enter-kept (eqb-true _ _ e)) λ _.
+      guard (Kept t o) (s isAn replaceEntry) (λ e. replace-kept (eqb-true _ _ e)) λ _.
+      guard (Kept t o) (s isAn cancelEntry) (λ _. other (cancel-keeps o unasked (cancelOf s) blank sane shaped)) λ _.
+      guard (Kept t o) (s isAn modifyEntry) (λ _. other (modify-keeps h o unasked (modifyOf s) blank sane shaped)) λ _. market-kept

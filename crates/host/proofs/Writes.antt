@@ -16,6 +16,7 @@ use Rattle.table.specs.Table.{HasRecord, header, placeOf, orderNamed, sound}
 use Rattle.tape.specs.Entries.{kindOf, tokenOf, systemOf, systemEntry}
 use Rattle.tape.specs.declared.entry.System.{System}
 use Rattle.rules.specs.Plan.{noPlan, refused, beginning}
+use Rattle.rules.proofs.Shapes.{change-of}
 use Rattle.rules.proofs.Told.{within}
 use Rattle.market.specs.Day.{systemRule}
 use Rattle.host.specs.Types.{Decision, Plan, Order, Header}
@@ -53,7 +54,7 @@ writable t s ok done h place head at =
       used = omega (arith, ap (λ (q : Header). q .used) head, sn .head .used, sn .size .most);
       reference = omega (arith, ap (λ (q : Header). q .reference) head, sn .head .highest-reference);
       named = named;
-      changed = λ u. subst (HasRecord t) (sym (named u)) (changed-fit t s ok done (K t s ok done .1 .1 .changed) u .1);
+      changed = λ u. subst (HasRecord t) (sym (named u)) (changed-fit t s ok done (change-of (K t s ok done .1 .1 .shape)) u .1);
       added = λ u. omega (arith, ap (λ (q : Header). q .used) head, sn .size .long, free-there t s ok done u);
       told = within (K t s ok done .1 .1);
     }

@@ -3,16 +3,14 @@
 use Prim.Native.Nat.{ℕ, zero, suc}
 use mathlib.Core.Bool.{Bool, true, false}
 use mathlib.Core.List.{List, [], _∷_, _++_}
-use mathlib.Core.Option.{Option, none, some}
-use lib.ListN.{length, take, drop, getD}
+use lib.ListN.{length, take, drop}
 use lib.Dec.{eqb}
 use Rattle.octets.specs.Choice.{pick}
 use Rattle.octets.specs.Bytes.{joined}
 use Rattle.answers.specs.Answer.{answerNumber, isDone}
-use Rattle.wire.specs.Layout.{Layout, layoutFor}
-use Rattle.wire.specs.Messages.{outbound}
+use Rattle.wire.specs.Messages.{messageLength}
 use Rattle.outbox.specs.Outbox.{held, releaseAnswer, releaseMarks}
-use Rattle.rules.specs.Sent.{message}
+use Rattle.rules.specs.Sent.{message, OneOfTwelve}
 use Rattle.tape.specs.Entries.{stampOf}
 use Rattle.host.specs.Step.{World, Outcome, step, comesTo, tableAfter}
 use Rattle.host.specs.Types.{Answer, Blocked, Done, Decision, Marks}
@@ -96,12 +94,23 @@ patient w (s ∷ ss) =
     (offerNext ∷ release (w .marks .held) ∷ offerNext ∷ patient (step (emptied w) s .world) ss)
     (offerNext ∷ patient (step w s .world) ss)
 
--- ---- the stream cut into messages, by the length that the first byte's type fixes
+-- ---- the stream cut into messages, by the lengths that their types fix
 
-abbrev pub sizeFor : Option Layout → ℕ
-sizeFor none = 0
-sizeFor (some l) = l .size
+-- the message in front, and then the rest
+abbrev pub cutOn : List ℕ → (List ℕ → List (List ℕ)) → List (List ℕ)
+cutOn [] rest = []
+cutOn (b ∷ bs) rest = take (messageLength false b) (b ∷ bs) ∷ rest (drop (messageLength false b) (b ∷ bs))
 
+-- until nothing is left, n messages at most
 unfoldable pub cutInto : ℕ → List ℕ → List (List ℕ)
 cutInto zero s = []
-cutInto (suc n) s = take (sizeFor (layoutFor outbound (getD s 0 0))) s ∷ cutInto n (drop (sizeFor (layoutFor outbound (getD s 0 0))) s)
+cutInto (suc n) s = cutOn s (cutInto n)
+
+-- no message is empty, so there are no more messages than bytes
+unfoldable pub messagesIn : List ℕ → List (List ℕ)
+messagesIn s = cutInto (length s) s
+
+-- each is one of the twelve, legal for its reader
+abbrev pub AllOfTwelve : List (List ℕ) → Type 0
+AllOfTwelve [] = Unit {0}
+AllOfTwelve (m ∷ ms) = OneOfTwelve m × AllOfTwelve ms

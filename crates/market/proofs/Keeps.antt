@@ -22,38 +22,38 @@ use Rattle.market.specs.Cross.{lateRule, crossDoneRule}
 use Rattle.market.specs.Day.{systemRule}
 use Rattle.market.proofs.Room.{no-more-than-open}
 
-pub execution-keeps : (h : Header) (o : Order) (e : Execution) (t : List ℕ) → Sane o → Shaped o → Keeps o t (executionRule h o e)
+pub execution-keeps : (h : Header) (o : Order) (e : Execution) (found : Order) (t : List ℕ) → Sane o → Shaped o → Keeps o found t (executionRule h o e)
 unfolding executionRule executing withFlags withSide
-execution-keeps h o e t sane shaped =
-    guard (Keeps o t) (not (isLive o)) (λ _. refused-keeps NotLive) λ l.
-    guard (Keeps o t) (not (isOpenDay h)) (λ _. refused-keeps WrongMoment) λ _.
-    guard (Keeps o t) (sharesWrong o (e .shares)) (λ _. refused-keeps WrongShares) λ fair.
+execution-keeps h o e found t sane shaped =
+    guard (Keeps o found t) (not (isLive o)) (λ _. refused-keeps NotLive) λ l.
+    guard (Keeps o found t) (not (isOpenDay h)) (λ _. refused-keeps WrongMoment) λ _.
+    guard (Keeps o found t) (sharesWrong o (e .shares)) (λ _. refused-keeps WrongShares) λ fair.
     let shares = sane (not-false _ l) in
     let room = no-more-than-open o (e .shares) shares fair in
-    changing-keeps
+    changing-keeps tt
     (recounted o (not-false _ l) shares shaped (o .side) (o .flags) (executing (o .shares) (e .shares)) (Executed e) (omega arith) (omega arith)
     (omega arith))
 
-pub book-cancel-keeps : (o : Order) (e : BookCancel) (t : List ℕ) → Sane o → Shaped o → Keeps o t (bookCancelRule o e)
+pub book-cancel-keeps : (o : Order) (e : BookCancel) (found : Order) (t : List ℕ) → Sane o → Shaped o → Keeps o found t (bookCancelRule o e)
 unfolding bookCancelRule cut withLiable withFlags withSide
-book-cancel-keeps o e t sane shaped =
-    guard (Keeps o t) (not (isLive o)) (λ _. refused-keeps NotLive) λ l.
-    guard (Keeps o t) (sharesWrong o (e .shares)) (λ _. refused-keeps WrongShares) λ fair.
+book-cancel-keeps o e found t sane shaped =
+    guard (Keeps o found t) (not (isLive o)) (λ _. refused-keeps NotLive) λ l.
+    guard (Keeps o found t) (sharesWrong o (e .shares)) (λ _. refused-keeps WrongShares) λ fair.
     let shares = sane (not-false _ l) in
     let room = no-more-than-open o (e .shares) shares fair in
-    changing-keeps
+    changing-keeps tt
     (recounted o (not-false _ l) shares shaped (o .side) (o .flags) (cut (o .shares) (e .shares)) (Canceled (e .shares) (e .reason)) (omega arith)
     (omega arith) (omega arith))
 
-pub self-match-keeps : (h : Header) (o : Order) (e : SelfMatch) (t : List ℕ) → Sane o → Shaped o → Keeps o t (selfMatchRule h o e)
+pub self-match-keeps : (h : Header) (o : Order) (e : SelfMatch) (found : Order) (t : List ℕ) → Sane o → Shaped o → Keeps o found t (selfMatchRule h o e)
 unfolding selfMatchRule selfMatching withFlags withSide
-self-match-keeps h o e t sane shaped =
-    guard (Keeps o t) (not (isLive o)) (λ _. refused-keeps NotLive) λ l.
-    guard (Keeps o t) (not (isOpenDay h)) (λ _. refused-keeps WrongMoment) λ _.
-    guard (Keeps o t) (sharesWrong o (e .shares)) (λ _. refused-keeps WrongShares) λ fair.
+self-match-keeps h o e found t sane shaped =
+    guard (Keeps o found t) (not (isLive o)) (λ _. refused-keeps NotLive) λ l.
+    guard (Keeps o found t) (not (isOpenDay h)) (λ _. refused-keeps WrongMoment) λ _.
+    guard (Keeps o found t) (sharesWrong o (e .shares)) (λ _. refused-keeps WrongShares) λ fair.
     let shares = sane (not-false _ l) in
     let room = no-more-than-open o (e .shares) shares fair in
-    changing-keeps
+    changing-keeps tt
     (recounted o (not-false _ l) shares shaped (o .side) (o .flags) (selfMatching (o .shares) (e .shares)) (AiqCancelled e) (omega arith)
     (omega arith) (omega arith))
 
@@ -67,39 +67,40 @@ prioritised h o e alive shares shaped =
       standing = stillLive (live-state o alive) shares;
       shaped = record { token = shaped .token; stock = shaped .stock; firm = shaped .firm; previous = shaped .previous };
       token = refl;
+      previous = refl;
       executed = omega arith;
     }
 
-pub priority-keeps : (h : Header) (o : Order) (e : Priority) (t : List ℕ) → Sane o → Shaped o → Keeps o t (priorityRule h o e)
+pub priority-keeps : (h : Header) (o : Order) (e : Priority) (found : Order) (t : List ℕ) → Sane o → Shaped o → Keeps o found t (priorityRule h o e)
 unfolding priorityRule
-priority-keeps h o e t sane shaped =
-    guard (Keeps o t) (not (isLive o)) (λ _. refused-keeps NotLive) λ l.
-    guard (Keeps o t) (not (isOpenDay h)) (λ _. refused-keeps WrongMoment) λ _.
-    renumbering-keeps (prioritised h o e (not-false _ l) (sane (not-false _ l)) shaped)
+priority-keeps h o e found t sane shaped =
+    guard (Keeps o found t) (not (isLive o)) (λ _. refused-keeps NotLive) λ l.
+    guard (Keeps o found t) (not (isOpenDay h)) (λ _. refused-keeps WrongMoment) λ _.
+    renumbering-keeps tt (prioritised h o e (not-false _ l) (sane (not-false _ l)) shaped)
 
-pub late-keeps : (h : Header) (o : Order) (t : List ℕ) → Sane o → Shaped o → Keeps o t (lateRule h o)
+pub late-keeps : (h : Header) (o : Order) (found : Order) (t : List ℕ) → Sane o → Shaped o → Keeps o found t (lateRule h o)
 unfolding lateRule markedLate
-late-keeps h o t sane shaped =
-    guard (Keeps o t) (not (isLive o)) (λ _. refused-keeps NotLive) λ l.
-    guard (Keeps o t) (not (isOpenDay h)) (λ _. refused-keeps WrongMoment) λ _.
-    guard (Keeps o t) (eqb (o .details .kept .cross) noCross || isLate o) (λ _. refused-keeps WrongMoment) λ _.
-    changing-keeps (uncounted o (not-false _ l) (sane (not-false _ l)) shaped _ refl)
+late-keeps h o found t sane shaped =
+    guard (Keeps o found t) (not (isLive o)) (λ _. refused-keeps NotLive) λ l.
+    guard (Keeps o found t) (not (isOpenDay h)) (λ _. refused-keeps WrongMoment) λ _.
+    guard (Keeps o found t) (eqb (o .details .kept .cross) noCross || isLate o) (λ _. refused-keeps WrongMoment) λ _.
+    changing-keeps tt (uncounted o (not-false _ l) (sane (not-false _ l)) shaped _ refl)
 
-pub cross-done-keeps : (o : Order) (t : List ℕ) → Sane o → Shaped o → Keeps o t (crossDoneRule o)
+pub cross-done-keeps : (o : Order) (found : Order) (t : List ℕ) → Sane o → Shaped o → Keeps o found t (crossDoneRule o)
 unfolding crossDoneRule clearedLate clearedPending withFlags
-cross-done-keeps o t sane shaped =
-    guard (Keeps o t) (not (isLive o)) (λ _. refused-keeps NotLive) λ l.
+cross-done-keeps o found t sane shaped =
+    guard (Keeps o found t) (not (isLive o)) (λ _. refused-keeps NotLive) λ l.
     let alive = not-false _ l in
     let shares = sane alive in
-    guard (Keeps o t) (not (isLate o)) (λ _. refused-keeps WrongMoment) λ _.
-    guard (Keeps o t) (isPending o)
+    guard (Keeps o found t) (not (isLate o)) (λ _. refused-keeps WrongMoment) λ _.
+    guard (Keeps o found t) (isPending o)
     (λ _.
-    changing-keeps (ended o alive shares shaped (clearedPending (clearedLate o) .flags) (Canceled (openShares (o .shares)) userRequested) refl)) λ _.
-    changing-keeps (uncounted o alive shares shaped _ refl)
+    changing-keeps tt (ended o alive shares shaped (clearedPending (clearedLate o) .flags) (Canceled (openShares (o .shares)) userRequested) refl)) λ _.
+    changing-keeps tt (uncounted o alive shares shaped _ refl)
 
-pub system-keeps : (h : Header) (e : System) (o : Order) (t : List ℕ) → Keeps o t (systemRule h e)
+pub system-keeps : (h : Header) (e : System) (o found : Order) (t : List ℕ) → Keeps o found t (systemRule h e)
 unfolding systemRule
-system-keeps h e o t =
-    guard (Keeps o t) (eqb (e .event) startOfDay && eqb (h .day) dayBefore) (λ _. beginning-keeps dayOpen (e .event) (omega arith)) λ _.
-    guard (Keeps o t) (eqb (e .event) endOfDay && eqb (h .day) dayOpen) (λ _. beginning-keeps dayClosed (e .event) (omega arith)) λ _.
+system-keeps h e o found t =
+    guard (Keeps o found t) (eqb (e .event) startOfDay && eqb (h .day) dayBefore) (λ _. beginning-keeps dayOpen (e .event) (omega arith)) λ _.
+    guard (Keeps o found t) (eqb (e .event) endOfDay && eqb (h .day) dayOpen) (λ _. beginning-keeps dayClosed (e .event) (omega arith)) λ _.
     refused-keeps WrongMoment

@@ -23,33 +23,33 @@ use Rattle.rules.specs.Replace.{badDetails, replacementOrder, replaceOpe
 use Rattle.rules.specs.Cancel.{cancelIgnored, decrement, canceledOrder, lateCancel, cancelRule}
 use Rattle.rules.specs.Modify.{modifyIgnored, modifiedOrder, modifyRule}
 use Rattle.rules.proofs.Moments.{cancel-live, cancel-smaller, modify-live, modify-above, modify-within, fair-shares, good-shares, new-open}
-use Rattle.rules.proofs.Shapes.{refused-keeps, changing-keeps, accepting-keeps, rejecting-keeps, replacing-keeps, uncounted, recounted, ended}
+use Rattle.rules.proofs.Shapes.{refused-keeps, changing-keeps, accepting-keeps, rejecting-keeps, replacing-keeps, uncounted, recounted, ended, ended-dead}
 
-pub cancel-keeps : (o : Order) (e : CancelOrder) (t : List ℕ) → Sane o → Shaped o → Keeps o t (cancelRule o e)
+pub cancel-keeps : (o found : Order) (e : CancelOrder) (t : List ℕ) → Sane o → Shaped o → Keeps o found t (cancelRule o e)
 unfolding cancelRule lateCancel canceledOrder decrement cut withLiable gone markedPending markedRejectSent withFlags withSide
-cancel-keeps o e t sane shaped =
-    guard (Keeps o t) (cancelIgnored o (e .size)) (λ _. refused-keeps Ignored) λ heard.
+cancel-keeps o found e t sane shaped =
+    guard (Keeps o found t) (cancelIgnored o (e .size)) (λ _. refused-keeps Ignored) λ heard.
     let alive = cancel-live o (e .size) heard in
     let shares = sane alive in
     let smaller = cancel-smaller o (e .size) heard in
-    guard (Keeps o t) (isLate o)
+    guard (Keeps o found t) (isLate o)
     (λ _.
-    guard (Keeps o t) (e .size equals total 0) (λ _. changing-keeps (uncounted o alive shares shaped _ refl)) λ _.
-    guard (Keeps o t) (rejectSent o) (λ _. refused-keeps Ignored) λ _.
-    changing-keeps (uncounted o alive shares shaped _ refl)) λ _.
-    changing-keeps
+    guard (Keeps o found t) (e .size equals total 0) (λ _. changing-keeps tt (uncounted o alive shares shaped _ refl)) λ _.
+    guard (Keeps o found t) (rejectSent o) (λ _. refused-keeps Ignored) λ _.
+    changing-keeps tt (uncounted o alive shares shaped _ refl)) λ _.
+    changing-keeps tt
     (recounted o alive shares shaped (o .side) (o .flags) (cut (o .shares) (decrement o (e .size))) (Canceled (decrement o (e .size)) userRequested)
     (omega arith) (omega arith) (omega arith))
 
-pub modify-keeps : (h : Header) (o : Order) (e : ModifyOrder) (t : List ℕ) → Sane o → Shaped o → Keeps o t (modifyRule h o e)
+pub modify-keeps : (h : Header) (o found : Order) (e : ModifyOrder) (t : List ℕ) → Sane o → Shaped o → Keeps o found t (modifyRule h o e)
 unfolding modifyRule modifiedOrder withLiable withFlags withSide
-modify-keeps h o e t sane shaped =
-    guard (Keeps o t) (modifyIgnored h o e) (λ _. refused-keeps Ignored) λ heard.
+modify-keeps h o found e t sane shaped =
+    guard (Keeps o found t) (modifyIgnored h o e) (λ _. refused-keeps Ignored) λ heard.
     let alive = modify-live h o e heard in
     let shares = sane alive in
     let above = modify-above h o e heard in
     let within = modify-within h o e heard in
-    changing-keeps
+    changing-keeps tt
     (recounted o alive shares shaped (e .side) (o .flags) (withLiable (o .shares) (e .shares)) Modified (omega arith) (omega arith) (omega arith))
 
 -- a blank firm becomes the default, which is four bytes long too
@@ -77,22 +77,22 @@ entered-born h e holds texts fair =
       previous = refl;
     }
 
-pub enter-keeps : (h : Header) (found : Order) (e : EnterOrder) → HeaderHolds h → EnterShaped e → Keeps found (e .token) (enterRule h found e)
+pub enter-keeps : (h : Header) (found : Order) (e : EnterOrder) → HeaderHolds h → EnterShaped e → Keeps found found (e .token) (enterRule h found e)
 unfolding enterRule enterOutcome enterFault
 enter-keeps h found e holds texts =
-    guard (Keeps found (e .token)) (isUsed found) (λ _. refused-keeps Ignored) λ _.
-    guard Good (not (isOpenDay h)) (λ _. rejecting-keeps closed) λ _.
-    guard Good (not (isListed h (meantFirm h (e .firm)))) (λ _. rejecting-keeps firmNotListed) λ _.
-    guard Good (not (shapely (e .stock))) (λ _. rejecting-keeps invalidStock) λ _.
-    guard Good (not (among crosses (e .cross))) (λ _. rejecting-keeps notInThisCross) λ _.
-    guard Good (badDisplay (e .display) (e .cross)) (λ _. rejecting-keeps invalidDisplay) λ _.
-    guard Good (badPrice (e .price) (e .cross)) (λ _. rejecting-keeps invalidPrice) λ _.
-    guard Good (badShares h (e .shares)) (λ _. rejecting-keeps aboveThreshold) λ fair.
-    guard Good (badMinimum (e .minimum) (e .time) (e .shares less total 0)) (λ _. rejecting-keeps invalidMinimum) λ _.
-    accepting-keeps (entered-born h e holds texts fair)
+    guard (Keeps found found (e .token)) (isUsed found) (λ _. refused-keeps Ignored) λ free.
+    guard Good (not (isOpenDay h)) (λ _. rejecting-keeps free closed) λ _.
+    guard Good (not (isListed h (meantFirm h (e .firm)))) (λ _. rejecting-keeps free firmNotListed) λ _.
+    guard Good (not (shapely (e .stock))) (λ _. rejecting-keeps free invalidStock) λ _.
+    guard Good (not (among crosses (e .cross))) (λ _. rejecting-keeps free notInThisCross) λ _.
+    guard Good (badDisplay (e .display) (e .cross)) (λ _. rejecting-keeps free invalidDisplay) λ _.
+    guard Good (badPrice (e .price) (e .cross)) (λ _. rejecting-keeps free invalidPrice) λ _.
+    guard Good (badShares h (e .shares)) (λ _. rejecting-keeps free aboveThreshold) λ fair.
+    guard Good (badMinimum (e .minimum) (e .time) (e .shares less total 0)) (λ _. rejecting-keeps free invalidMinimum) λ _.
+    accepting-keeps free (entered-born h e holds texts fair)
   where
     Good : Fault → Type 0
-    Good f = Keeps found (e .token) (enterOutcome h e f)
+    Good f = Keeps found found (e .token) (enterOutcome h e f)
 
 replacement-born : (h : Header) (old : Order) (e : ReplaceOrder) → HeaderHolds h → Shaped old → length (e .replacement) ≡ tokenSize
     → e .existing ≡ old .token → badDetails h old e ≡ false
@@ -111,17 +111,18 @@ replacement-born h old e holds shaped long names good =
 
 pub replace-keeps : (h : Header) (old found : Order) (e : ReplaceOrder) → HeaderHolds h → Sane old → Shaped old
     → length (e .replacement) ≡ tokenSize → (isLive old ≡ true → e .existing ≡ old .token)
-    → Keeps old (e .replacement) (replaceRule h old found e)
+    → Keeps old found (e .replacement) (replaceRule h old found e)
 unfolding replaceRule replaceOpen withFlags
 replace-keeps h old found e holds sane shaped long names =
     guard Good (not (isLive old)) (λ _. refused-keeps Ignored) λ l.
     let alive = not-false _ l in
     let end = ended old alive (sane alive) shaped (old .flags) in
-    guard Good (isUsed found) (λ _. refused-keeps Ignored) λ _.
-    guard Good (not (isOpenDay h)) (λ _. rejecting-keeps closed) λ _.
-    guard Good (isLate old) (λ _. rejecting-keeps notInThisCross) λ _.
-    guard Good (badDetails h old e) (λ _. changing-keeps (end (Canceled (openShares (old .shares)) userRequested) refl)) λ good.
-    replacing-keeps (end Replaced refl) (replacement-born h old e holds shaped long (names alive) good)
+    guard Good (isUsed found) (λ _. refused-keeps Ignored) λ free.
+    guard Good (not (isOpenDay h)) (λ _. rejecting-keeps free closed) λ _.
+    guard Good (isLate old) (λ _. rejecting-keeps free notInThisCross) λ _.
+    guard Good (badDetails h old e) (λ _. changing-keeps tt (end (Canceled (openShares (old .shares)) userRequested) refl)) λ good.
+    replacing-keeps free (end Replaced refl) (ended-dead old alive (sane alive) shaped (old .flags))
+    (replacement-born h old e holds shaped long (names alive) good)
   where
     Good : Decision → Type 0
-    Good d = Keeps old (e .replacement) d
+    Good d = Keeps old found (e .replacement) d

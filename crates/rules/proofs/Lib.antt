@@ -4,4 +4,5 @@ pub mod Moments
 pub mod Shapes
 pub mod Keeps
 pub mod Spelled
+pub mod Legal
 pub mod Told

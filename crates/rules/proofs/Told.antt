@@ -1,52 +1,91 @@
--- At most one message goes out for an entry, of one of the twelve outbound types and at most 80 bytes long. Assumes nothing.
+-- At most one message goes out for an entry, of one of the twelve outbound types, legal for its reader and at most 80 bytes long. Assumes nothing.
 use Prim.Native.Nat.{ℕ, _≤_, _<_}
 use mathlib.Core.Path.{_≡_, refl}
 use mathlib.Core.Bool.{true}
 use mathlib.Core.List.{List}
 use lib.ListN.{length}
 use native.Mathlib.Omega.{arith}
-use Rattle.octets.specs.Bytes.{numberOf, numberFrom}
-use Rattle.wire.specs.Layout.{Values, spell, unbroken, wellLaid}
-use Rattle.wire.specs.Limits.{tokenSize}
+use Rattle.octets.specs.Bytes.{numberOf, numberFrom, digits}
+use Rattle.octets.proofs.Laws.{number-digits}
+use Rattle.wire.specs.Layout.{Values, legalToken, spell, unbroken, wellLaid}
+use Rattle.wire.specs.Legal.{Obeys}
+use Rattle.wire.specs.Limits.{tokenSize, stampEnd}
 use Rattle.wire.specs.Messages.{message as wireMessage}
 use Rattle.wire.proofs.Layouts.{Sized, length-spelled}
 use Rattle.table.specs.Counts.{Within, newCounts}
-use Rattle.table.specs.Order.{orderOf, noOrder, rejectedOrder}
+use Rattle.table.specs.Order.{orderOf, noOrder, rejectedOrder, isLive}
 use Rattle.outbound.specs.Outbound.{systemEventBytes, acceptedBytes, replacedBytes, canceledBytes, aiqCancelledBytes, executedBytes, rejectedBytes, cancelPendingBytes, cancelRejectBytes, priorityUpdateBytes, modifiedBytes}
 use Rattle.rules.specs.Limits.{longestMessage}
-use Rattle.rules.specs.Types.{Order, Decision, Notice, Accepted, AiqCancelled, CancelPending, CancelReject, Canceled, Executed, Modified, PriorityUpdate, Rejected, Replaced, Silent, SystemEvent}
-use Rattle.rules.specs.Sane.{Shaped, Standing, stillLive, nowDead, Change, unchanged, changed, Addition, nothing, rejected, entered, replacing, Keeps}
+use Rattle.rules.specs.Types.{Order, Plan, Decision, Notice, Accepted, AiqCancelled, CancelPending, CancelReject, Canceled, Executed, Modified, PriorityUpdate, Rejected, Replaced, Silent, SystemEvent}
+use Rattle.rules.specs.Sane.{Shaped, Standing, stillLive, nowDead, Change, unchanged, changed, Addition, nothing, rejected, entered, replacing, OfNobody, OfNamed, Shape, nobody, changes, accepts, rejects, replaces, Keeps}
 use Rattle.rules.specs.Sent.{acceptedNotice, replacedNotice, canceledNotice, selfMatchNotice, executedNotice, rejectedNotice, priorityNotice, modifiedNotice, noticeBytes, message, AtMostOne, silent, told}
+use Rattle.rules.proofs.Legal.{Obeying, spelled-legal}
+use Rattle.rules.proofs.Shapes.{change-of, addition-of}
 
--- one of the twelve, with texts of their widths
+-- one of the twelve, with texts of their widths and values that are legal
 one : (k : ℕ) → 4 ≤ k → k < 16 → wellLaid (wireMessage k) ≡ true → wireMessage k .size ≤ longestMessage → (v : Values (wireMessage k .fields))
-    → Sized (wireMessage k .fields) v → AtMostOne (spell (wireMessage k) v)
-one k low high well most v sized =
+    → Sized (wireMessage k .fields) v → Obeying (wireMessage k .fields) v → AtMostOne (spell (wireMessage k) v)
+one k low high well most v sized good =
     let long = length-spelled (wireMessage k) well v sized in
-    told k low high v refl long (omega (arith, long))
+    told (record { number = k; low = low; high = high; legal = spelled-legal (wireMessage k) well v sized good }) (omega (arith, long))
 
-pub notice-one : (stamp : ℕ) (o new : Order) (notice : Notice) → Shaped o → Shaped new → AtMostOne (noticeBytes stamp o new notice)
-unfolding noticeBytes wellLaid unbroken systemEventBytes acceptedBytes acceptedNotice replacedBytes replacedNotice canceledBytes canceledNotice aiqCancelledBytes selfMatchNotice executedBytes executedNotice rejectedBytes rejectedNotice cancelPendingBytes cancelRejectBytes priorityUpdateBytes priorityNotice modifiedBytes modifiedNotice
-notice-one stamp o new Silent sh sn = silent refl
-notice-one stamp o new (SystemEvent event) sh sn = one 4 (omega arith) (omega arith) refl (omega arith) _ (tt, (tt, tt))
-notice-one stamp o new Accepted sh sn =
+-- a token that a message may name
+pub record Named (token : List ℕ) : Type 0 where
+  pub long : length token ≡ tokenSize
+  pub legal : Obeys legalToken token
+
+-- the tokens that a notice names: of the changed order, or of the added one
+abbrev Tells : Order → Order → Notice → Type 0
+Tells o new Silent = Unit {0}
+Tells o new (SystemEvent event) = Unit {0}
+Tells o new Accepted = Named (new .token)
+Tells o new Replaced = Named (new .token) × Named (new .details .previous)
+Tells o new (Canceled decrement reason) = Named (o .token)
+Tells o new (AiqCancelled e) = Named (o .token)
+Tells o new (Executed e) = Named (o .token)
+Tells o new (Rejected reason) = Named (new .token)
+Tells o new CancelPending = Named (o .token)
+Tells o new CancelReject = Named (o .token)
+Tells o new PriorityUpdate = Named (o .token)
+Tells o new Modified = Named (o .token)
+
+-- a stamp of the day, spelled
+in-day : (stamp : ℕ) → stamp < stampEnd → numberOf (digits 8 stamp) < stampEnd
+unfolding numberOf
+in-day stamp legal = omega (arith, number-digits 8 stamp (omega arith))
+
+notice-one : (stamp : ℕ) (o new : Order) (notice : Notice) → stamp < stampEnd → Shaped new → Tells o new notice
+    → AtMostOne (noticeBytes stamp o new notice)
+unfolding noticeBytes wellLaid unbroken Obeys systemEventBytes acceptedBytes acceptedNotice replacedBytes replacedNotice canceledBytes canceledNotice aiqCancelledBytes selfMatchNotice executedBytes executedNotice rejectedBytes rejectedNotice cancelPendingBytes cancelRejectBytes priorityUpdateBytes priorityNotice modifiedBytes modifiedNotice
+notice-one stamp o new Silent d sn n = silent refl
+notice-one stamp o new (SystemEvent event) d sn n =
+    one 4 (omega arith) (omega arith) refl (omega arith) _ (tt, (tt, tt)) (in-day stamp d, (tt, tt))
+notice-one stamp o new Accepted d sn n =
     one 5 (omega arith) (omega arith) refl (omega arith) _
-    (tt, (sn .token, (tt, (tt, (sn .stock, (tt, (tt, (sn .firm, (tt, (tt, (tt, (tt, (tt, (tt, (tt, (tt, tt))))))))))))))))
-notice-one stamp o new Replaced sh sn =
+    (tt, (n .long, (tt, (tt, (sn .stock, (tt, (tt, (sn .firm, (tt, (tt, (tt, (tt, (tt, (tt, (tt, (tt, tt))))))))))))))))
+    (in-day stamp d, (n .legal, (tt, (tt, (tt, (tt, (tt, (tt, (tt, (tt, (tt, (tt, (tt, (tt, (tt, (tt, tt))))))))))))))))
+notice-one stamp o new Replaced d sn n =
     one 6 (omega arith) (omega arith) refl (omega arith) _
-    (tt, (sn .token, (tt, (tt, (sn .stock, (tt, (tt, (sn .firm, (tt, (tt, (tt, (tt, (tt, (tt, (tt, (sn .previous, (tt, tt)))))))))))))))))
-notice-one stamp o new (Canceled decrement reason) sh sn =
-    one 7 (omega arith) (omega arith) refl (omega arith) _ (tt, (sh .token, (tt, (tt, tt))))
-notice-one stamp o new (AiqCancelled e) sh sn =
-    one 8 (omega arith) (omega arith) refl (omega arith) _ (tt, (sh .token, (tt, (tt, (tt, (tt, (tt, tt)))))))
-notice-one stamp o new (Executed e) sh sn =
-    one 9 (omega arith) (omega arith) refl (omega arith) _ (tt, (sh .token, (tt, (tt, (tt, (tt, tt))))))
-notice-one stamp o new (Rejected reason) sh sn = one 11 (omega arith) (omega arith) refl (omega arith) _ (tt, (sn .token, (tt, tt)))
-notice-one stamp o new CancelPending sh sn = one 12 (omega arith) (omega arith) refl (omega arith) _ (tt, (sh .token, tt))
-notice-one stamp o new CancelReject sh sn = one 13 (omega arith) (omega arith) refl (omega arith) _ (tt, (sh .token, tt))
-notice-one stamp o new PriorityUpdate sh sn =
-    one 14 (omega arith) (omega arith) refl (omega arith) _ (tt, (sh .token, (tt, (tt, (tt, tt)))))
-notice-one stamp o new Modified sh sn = one 15 (omega arith) (omega arith) refl (omega arith) _ (tt, (sh .token, (tt, (tt, tt))))
+    (tt, (n .0 .long, (tt, (tt, (sn .stock, (tt, (tt, (sn .firm, (tt, (tt, (tt, (tt, (tt, (tt, (tt, (n .1 .long, (tt, tt)))))))))))))))))
+    (in-day stamp d, (n .0 .legal, (tt, (tt, (tt, (tt, (tt, (tt, (tt, (tt, (tt, (tt, (tt, (tt, (tt, (n .1 .legal, (tt, tt)))))))))))))))))
+notice-one stamp o new (Canceled decrement reason) d sn n =
+    one 7 (omega arith) (omega arith) refl (omega arith) _ (tt, (n .long, (tt, (tt, tt)))) (in-day stamp d, (n .legal, (tt, (tt, tt))))
+notice-one stamp o new (AiqCancelled e) d sn n =
+    one 8 (omega arith) (omega arith) refl (omega arith) _ (tt, (n .long, (tt, (tt, (tt, (tt, (tt, tt)))))))
+    (in-day stamp d, (n .legal, (tt, (tt, (tt, (tt, (tt, tt)))))))
+notice-one stamp o new (Executed e) d sn n =
+    one 9 (omega arith) (omega arith) refl (omega arith) _ (tt, (n .long, (tt, (tt, (tt, (tt, tt))))))
+    (in-day stamp d, (n .legal, (tt, (tt, (tt, (tt, tt))))))
+notice-one stamp o new (Rejected reason) d sn n =
+    one 11 (omega arith) (omega arith) refl (omega arith) _ (tt, (n .long, (tt, tt))) (in-day stamp d, (n .legal, (tt, tt)))
+notice-one stamp o new CancelPending d sn n =
+    one 12 (omega arith) (omega arith) refl (omega arith) _ (tt, (n .long, tt)) (in-day stamp d, (n .legal, tt))
+notice-one stamp o new CancelReject d sn n =
+    one 13 (omega arith) (omega arith) refl (omega arith) _ (tt, (n .long, tt)) (in-day stamp d, (n .legal, tt))
+notice-one stamp o new PriorityUpdate d sn n =
+    one 14 (omega arith) (omega arith) refl (omega arith) _ (tt, (n .long, (tt, (tt, (tt, tt))))) (in-day stamp d, (n .legal, (tt, (tt, (tt, tt)))))
+notice-one stamp o new Modified d sn n =
+    one 15 (omega arith) (omega arith) refl (omega arith) _ (tt, (n .long, (tt, (tt, tt)))) (in-day stamp d, (n .legal, (tt, (tt, tt))))
 
 -- ---- the orders of a plan have their texts, and nothing of them is gone that they are not liable for
 
@@ -57,10 +96,6 @@ none-shaped = record { token = refl; stock = refl; firm = refl; previous = refl 
 none-within : Within (noOrder .shares)
 unfolding noOrder orderOf numberOf numberFrom
 none-within = omega arith
-
-changed-shaped : {named : Order} {notice : Notice} {o : Order} → Change named notice o → Shaped o
-changed-shaped (unchanged e) = rw e none-shaped
-changed-shaped (changed h) = h .shaped
 
 added-shaped : {t : List ℕ} {named new : Order} → length t ≡ tokenSize → Addition t named new → Shaped new
 unfolding rejectedOrder
@@ -87,11 +122,52 @@ added-within (replacing h) = let shares = h .shares in omega arith
 
 -- ---- of every decision that keeps what it should
 
-module _ {named : Order} {t : List ℕ} {d : Decision} (keeps : Keeps named t d) where
-  pub at-most-one : (stamp : ℕ) → length t ≡ tokenSize → AtMostOne (message stamp (d .plan))
-  unfolding message
-  at-most-one stamp long = notice-one stamp _ _ _ (changed-shaped (keeps .changed)) (added-shaped long (keeps .added))
+-- a notice of nobody, and one of the changed order
+of-nobody : (o new : Order) (notice : Notice) → OfNobody notice → Tells o new notice
+of-nobody o new Silent of = tt
+of-nobody o new (SystemEvent event) of = tt
+of-nobody o new Accepted of = absurd of
+of-nobody o new Replaced of = absurd of
+of-nobody o new (Canceled decrement reason) of = absurd of
+of-nobody o new (AiqCancelled e) of = absurd of
+of-nobody o new (Executed e) of = absurd of
+of-nobody o new (Rejected reason) of = absurd of
+of-nobody o new CancelPending of = absurd of
+of-nobody o new CancelReject of = absurd of
+of-nobody o new PriorityUpdate of = absurd of
+of-nobody o new Modified of = absurd of
+
+of-named : (o new : Order) (notice : Notice) → OfNamed notice → Named (o .token) → Tells o new notice
+of-named o new Silent of n = tt
+of-named o new (SystemEvent event) of n = absurd of
+of-named o new Accepted of n = absurd of
+of-named o new Replaced of n = absurd of
+of-named o new (Canceled decrement reason) of n = n
+of-named o new (AiqCancelled e) of n = n
+of-named o new (Executed e) of n = n
+of-named o new (Rejected reason) of n = absurd of
+of-named o new CancelPending of n = n
+of-named o new CancelReject of n = n
+of-named o new PriorityUpdate of n = n
+of-named o new Modified of n = n
+
+module _ {named found : Order} {token : List ℕ} {d : Decision} (keeps : Keeps named found token d) where
+  -- the named order's token is legal where it is live, and so is the token that may be used up
+  module _ (stands : isLive named ≡ true → Named (named .token)) (used : Named token) where
+    tells : (p : Plan) → Shape named found token p → Tells (p .changed) (p .added) (p .notice)
+    unfolding rejectedOrder
+    tells p (nobody c a of) = of-nobody (p .changed) (p .added) (p .notice) of
+    tells p (changes c a of) = of-named (p .changed) (p .added) (p .notice) of (rw (c .token) (stands (c .alive)))
+    tells p (accepts f c born e) = rw e (rw (born .token) used)
+    tells p (rejects f c a reason e) = rw (e, a) used
+    tells p (replaces f c end born e) = rw e (rw (born .token) used, rw (born .previous) (stands (c .alive)))
+
+    pub at-most-one : (stamp : ℕ) → stamp < stampEnd → AtMostOne (message stamp (d .plan))
+    unfolding message
+    at-most-one stamp legal =
+        notice-one stamp (d .plan .changed) (d .plan .added) (d .plan .notice) legal
+        (added-shaped (used .long) (addition-of (keeps .shape))) (tells (d .plan) (keeps .shape))
 
   -- what the spelling of the message asks
   pub within : (Within (d .plan .changed .shares)) × (Within (d .plan .added .shares))
-  within = (changed-within (keeps .changed), added-within (keeps .added))
+  within = (changed-within (change-of (keeps .shape)), added-within (addition-of (keeps .shape)))

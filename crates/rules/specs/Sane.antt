@@ -1,15 +1,15 @@
 -- What the rules may count on, and what every plan of theirs keeps true (Table and outbox, Sound; What each entry does, last paragraph).
 use Prim.Native.Nat.{ℕ, _+_, _*_, _<_, _≤_}
 use mathlib.Core.Path.{_≡_}
-use mathlib.Core.Bool.{true}
+use mathlib.Core.Bool.{true, false}
 use mathlib.Core.List.{List}
 use lib.ListN.{length}
 use Rattle.octets.specs.Bytes.{zeros}
 use Rattle.wire.specs.Letters.{live, dead}
 use Rattle.wire.specs.Limits.{tokenSize}
 use Rattle.table.specs.Limits.{mostShares, highestThreshold, firmSize, mostFirms, dayClosed}
-use Rattle.table.specs.Order.{isLive, noOrder, rejectedOrder}
-use Rattle.rules.specs.Types.{Counts, Order, Header, EnterOrder, Decision, Notice, Silent, SystemEvent, Accepted, Replaced, Canceled, AiqCancelled, Executed, Rejected, CancelPending, CancelReject, PriorityUpdate, Modified}
+use Rattle.table.specs.Order.{isLive, isUsed, noOrder, rejectedOrder}
+use Rattle.rules.specs.Types.{Counts, Order, Header, EnterOrder, Plan, Decision, Notice, Silent, SystemEvent, Accepted, Replaced, Canceled, AiqCancelled, Executed, Rejected, CancelPending, CancelReject, PriorityUpdate, Modified}
 
 -- ---- what a sound table gives
 
@@ -74,11 +74,8 @@ pub record Changed (named : Order) (notice : Notice) (after : Order) : Type 0 wh
   pub standing : Standing after
   pub shaped : Shaped after
   pub token : after .token ≡ named .token
+  pub previous : after .details .previous ≡ named .details .previous
   pub executed : after .shares .executed .0 ≡ named .shares .executed .0 + toldExecuted notice
-
-pub data Change (named : Order) (notice : Notice) (after : Order) : Type 0 where
-  unchanged : after ≡ noOrder → Change named notice after
-  changed : Changed named notice after → Change named notice after
 
 -- a live order under the token t, which carries over these executed and self-matched shares from the order of the token before it
 pub record Born (t : List ℕ) (e m : ℕ) (before : List ℕ) (new : Order) : Type 0 where
@@ -90,15 +87,63 @@ pub record Born (t : List ℕ) (e m : ℕ) (before : List ℕ) (new : Order) : T
   pub matched : new .shares .matched .0 ≡ m
   pub previous : new .details .previous ≡ before
 
--- `token` is the one that the entry may use up
+-- ---- the shapes of plans, and of which order the message tells
+
+-- nobody's order
+abbrev pub OfNobody : Notice → Type 0
+OfNobody Silent = Unit {0}
+OfNobody (SystemEvent event) = Unit {0}
+OfNobody Accepted = ⊥
+OfNobody Replaced = ⊥
+OfNobody (Canceled decrement reason) = ⊥
+OfNobody (AiqCancelled e) = ⊥
+OfNobody (Executed e) = ⊥
+OfNobody (Rejected reason) = ⊥
+OfNobody CancelPending = ⊥
+OfNobody CancelReject = ⊥
+OfNobody PriorityUpdate = ⊥
+OfNobody Modified = ⊥
+
+-- the order that the entry names
+abbrev pub OfNamed : Notice → Type 0
+OfNamed Silent = Unit {0}
+OfNamed (SystemEvent event) = ⊥
+OfNamed Accepted = ⊥
+OfNamed Replaced = ⊥
+OfNamed (Canceled decrement reason) = Unit {0}
+OfNamed (AiqCancelled e) = Unit {0}
+OfNamed (Executed e) = Unit {0}
+OfNamed (Rejected reason) = ⊥
+OfNamed CancelPending = Unit {0}
+OfNamed CancelReject = Unit {0}
+OfNamed PriorityUpdate = Unit {0}
+OfNamed Modified = Unit {0}
+
+-- `token` is the one that the entry may use up, and `found` the order that the table has under it already
+pub data Shape (named found : Order) (token : List ℕ) (p : Plan) : Type 0 where
+  nobody : p .changed ≡ noOrder → p .added ≡ noOrder → OfNobody (p .notice) → Shape named found token p
+  changes : Changed named (p .notice) (p .changed) → p .added ≡ noOrder → OfNamed (p .notice) → Shape named found token p
+  accepts : isUsed found ≡ false → p .changed ≡ noOrder → Born token 0 0 (zeros tokenSize) (p .added) → p .notice ≡ Accepted
+      → Shape named found token p
+  rejects : isUsed found ≡ false → p .changed ≡ noOrder → p .added ≡ rejectedOrder token → (reason : ℕ) → p .notice ≡ Rejected reason
+      → Shape named found token p
+  replaces : isUsed found ≡ false → Changed named Replaced (p .changed) → p .changed .state ≡ dead
+      → Born token (named .shares .executed .0) (named .shares .matched .0) (named .token) (p .added) → p .notice ≡ Replaced
+      → Shape named found token p
+
+-- what every decision of the rules keeps
+pub record Keeps (named found : Order) (token : List ℕ) (d : Decision) : Type 0 where
+  pub shape : Shape named found token (d .plan)
+  pub begins : d .plan .begins ≤ dayClosed
+
+-- ---- the two orders of a plan, seen one by one
+
+pub data Change (named : Order) (notice : Notice) (after : Order) : Type 0 where
+  unchanged : after ≡ noOrder → Change named notice after
+  changed : Changed named notice after → Change named notice after
+
 pub data Addition (token : List ℕ) (named new : Order) : Type 0 where
   nothing : new ≡ noOrder → Addition token named new
   rejected : new ≡ rejectedOrder token → Addition token named new
   entered : Born token 0 0 (zeros tokenSize) new → Addition token named new
   replacing : Born token (named .shares .executed .0) (named .shares .matched .0) (named .token) new → Addition token named new
-
--- what every decision of the rules keeps, of an entry that names the order `named` and may use up the token t
-pub record Keeps (named : Order) (t : List ℕ) (d : Decision) : Type 0 where
-  pub changed : Change named (d .plan .notice) (d .plan .changed)
-  pub added : Addition t named (d .plan .added)
-  pub begins : d .plan .begins ≤ dayClosed

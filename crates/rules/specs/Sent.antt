@@ -4,8 +4,7 @@ use mathlib.Core.Path.{_≡_}
 use mathlib.Core.List.{List, []}
 use lib.ListN.{length, take}
 use Rattle.wire.specs.Letters.{selfMatchPrevention, unspecifiedWeight}
-use Rattle.wire.specs.Layout.{Values, spell}
-use Rattle.wire.specs.Messages.{message as wireMessage}
+use Rattle.wire.specs.Messages.{message as wireMessage, readAnswer}
 use Rattle.table.specs.Counts.{openShares}
 use Rattle.outbound.specs.Outbound.{systemEventBytes, acceptedBytes, replacedBytes, canceledBytes, aiqCancelledBytes, executedBytes, rejectedBytes, cancelPendingBytes, cancelRejectBytes, priorityUpdateBytes, modifiedBytes}
 use Rattle.outbound.specs.declared.accepted.Accepted.{Accepted as AcceptedMessage}
@@ -17,7 +16,7 @@ use Rattle.outbound.specs.declared.rejected.Rejected.{Rejected as RejectedMessa
 use Rattle.outbound.specs.declared.priority_update.PriorityUpdate.{PriorityUpdate as PriorityUpdateMessage}
 use Rattle.outbound.specs.declared.modified.Modified.{Modified as ModifiedMessage}
 use Rattle.rules.specs.Limits.{longestMessage}
-use Rattle.rules.specs.Types.{Order, Plan, Notice, Removed, SelfMatch, Execution, Sent, Accepted, AiqCancelled, CancelPending, CancelReject, Canceled, Executed, Modified, PriorityUpdate, Rejected, Replaced, Silent, SystemEvent}
+use Rattle.rules.specs.Types.{Order, Plan, Notice, Done, Removed, SelfMatch, Execution, Sent, Accepted, AiqCancelled, CancelPending, CancelReject, Canceled, Executed, Modified, PriorityUpdate, Rejected, Replaced, Silent, SystemEvent}
 
 -- fields echoed and so stored; weight is a space
 unfoldable pub acceptedNotice : ℕ → Order → AcceptedMessage
@@ -136,8 +135,14 @@ pub record Spells (m : List ℕ) (s : Sent) : Type 0 where
   pub len : s .len ≡ length m
   pub most : s .len ≤ longestMessage
 
--- what goes out for an entry: nothing, or one of the twelve outbound messages (numbers 4 to 15 of the sixteen), its type in front
-pub data AtMostOne (s : List ℕ) : Type 0 where
-  silent : s ≡ [] → AtMostOne s
-  told : (k : ℕ) → 4 ≤ k → k < 16 → (v : Values (wireMessage k .fields)) → s ≡ spell (wireMessage k) v → length s ≡ wireMessage k .size
-      → length s ≤ longestMessage → AtMostOne s
+-- one of the twelve outbound messages (numbers 4 to 15 of the sixteen), legal for its reader
+pub record OneOfTwelve (m : List ℕ) : Type 0 where
+  pub number : ℕ
+  pub low : 4 ≤ number
+  pub high : number < 16
+  pub legal : readAnswer (wireMessage number) m ≡ Done
+
+-- what goes out for an entry
+pub data AtMostOne (m : List ℕ) : Type 0 where
+  silent : m ≡ [] → AtMostOne m
+  told : OneOfTwelve m → length m ≤ longestMessage → AtMostOne m

@@ -1,0 +1,101 @@
+-- The stream is whole messages: every message of a play is legal for its reader, and cutting the bytes by the lengths that the types fix
+-- gives exactly the messages back. Assumes nothing.
+use mathlib.Core.Path.{_≡_, refl, sym, ap, ap₂, _∙_, subst}
+use mathlib.Core.Bool.{Bool, true, false, _&&_, _||_}
+use mathlib.Core.List.{List, [], _∷_, _++_}
+use Prim.Native.Nat.{ℕ, zero, suc, _+_, _≤_, _<_}
+use native.Mathlib.Omega.{arith}
+use lib.Dec.{eqb, ltb}
+use lib.ListN.{length, take, drop, getD, length-append}
+use lib.Seq.{take-at, drop-at}
+use borrow.Author.Tests.{eqb-true, ltb-true, le-ltb}
+use Rattle.octets.specs.Choice.{pick, allBelow}
+use Rattle.octets.specs.Bytes.{joined}
+use Rattle.octets.proofs.Below.{all-at, both}
+use Rattle.answers.specs.Answer.{isDone}
+use Rattle.wire.specs.Layout.{layoutFor}
+use Rattle.wire.specs.Messages.{message as wireMessage, lengthFor, messageLength}
+use Rattle.wire.proofs.Exactly.{done-exactly}
+use Rattle.table.specs.Table.{sound}
+use Rattle.tape.specs.Entries.{stampOf}
+use Rattle.rules.specs.Sent.{message, OneOfTwelve, AtMostOne, silent, told}
+use Rattle.host.specs.Types.{Decision}
+use Rattle.host.specs.Step.{World, comesTo, tableAfter}
+use Rattle.host.specs.Day.{Played, telling, playOn, unlimited, Action, run, cutInto, messagesIn, AllOfTwelve}
+use Rattle.host.proofs.Sounds.{keeps}
+use Rattle.host.proofs.Sent.{sends}
+use Rattle.host.proofs.Day.{Ready, bytes, streams}
+
+-- ---- the messages of a play
+
+telling-legal : (m : List ℕ) (ms : List (List ℕ)) → AtMostOne m → AllOfTwelve ms → AllOfTwelve (telling m ms)
+telling-legal [] ms one all = all
+telling-legal (b ∷ bs) ms (silent e) all = absurd (omega (arith, ap length e))
+telling-legal (b ∷ bs) ms (told one most) all = (one, all)
+
+pub all-legal : (ss : List (List ℕ)) (t : List ℕ) → sound t ≡ true → AllOfTwelve (unlimited t ss .messages)
+unfolding unlimited
+all-legal [] t ok = tt
+all-legal (s ∷ ss) t ok = by (isDone (comesTo t s .answer)) refl (all-legal ss)
+  where
+    by : (b : Bool) → isDone (comesTo t s .answer) ≡ b → ((t′ : List ℕ) → sound t′ ≡ true → AllOfTwelve (unlimited t′ ss .messages))
+        → AllOfTwelve (playOn t s (comesTo t s) b (λ t′. unlimited t′ ss) .messages)
+    by true done rest =
+        telling-legal (message (stampOf s) (comesTo t s .plan)) _ (sends t s ok done)
+        (rest (tableAfter t s (comesTo t s .plan)) (keeps t s ok done))
+    by false e rest = rest t ok
+
+-- ---- cutting
+
+-- message k of the sixteen, where it is outbound: its type fixes its length, which is not 0
+lengths-fixed : allBelow 16 (λ k. ltb k 4 || (eqb (messageLength false (wireMessage k .code)) (wireMessage k .size) && ltb 0 (wireMessage k .size))) ≡ true
+unfolding allBelow lengthFor layoutFor
+lengths-fixed = refl
+
+module _ (m : List ℕ) (one : OneOfTwelve m) where
+  fixed : (eqb (messageLength false (wireMessage (one .number) .code)) (wireMessage (one .number) .size) && ltb 0 (wireMessage (one .number) .size)) ≡ true
+  fixed =
+      subst (λ (b : Bool). (b || (eqb (messageLength false (wireMessage (one .number) .code)) (wireMessage (one .number) .size) && ltb 0 (wireMessage (one .number) .size))) ≡ true)
+      (le-ltb (one .number) 4 (one .low)) (all-at _ 16 (one .number) lengths-fixed (one .high))
+
+  long : messageLength false (getD m 0 0) ≡ length m
+  long =
+      let legal = done-exactly (wireMessage (one .number)) m .0 (one .legal) in
+      ap (messageLength false) (legal .typed) ∙ eqb-true _ _ (both _ _ fixed .0) ∙ sym (legal .long)
+
+  some : 0 < length m
+  some =
+      let legal = done-exactly (wireMessage (one .number)) m .0 (one .legal) in
+      let size = wireMessage (one .number) .size in
+      omega (arith, legal .long, ltb-true 0 size (both (eqb (messageLength false (wireMessage (one .number) .code)) size) (ltb 0 size) fixed .1))
+
+pub cut-again : (ms : List (List ℕ)) → AllOfTwelve ms → (n : ℕ) → length (joined ms) ≤ n → cutInto n (joined ms) ≡ ms
+unfolding joined cutInto
+cut-again [] all zero enough = refl
+cut-again [] all (suc n) enough = refl
+cut-again ([] ∷ ms) all n enough = absurd (omega (arith, some [] (all .0)))
+cut-again ((b ∷ bs) ∷ ms) all zero enough = absurd (omega (arith, length-append (b ∷ bs) (joined ms)))
+cut-again ((b ∷ bs) ∷ ms) all (suc n) enough =
+    let m : List ℕ = b ∷ bs in
+    let size : messageLength false b ≡ length m = long m (all .0) in
+    ap₂ _∷_
+    (take-at m (joined ms) (messageLength false b) (sym size))
+    (ap (cutInto n) (drop-at m (joined ms) (messageLength false b) (sym size))
+    ∙ cut-again ms (all .1) n (omega (arith, length-append m (joined ms))))
+
+-- ---- of every schedule that gets through the list
+
+pub record WholeMessages (s : List ℕ) (ms : List (List ℕ)) : Type 0 where
+  pub cut : messagesIn s ≡ ms
+  pub legal : AllOfTwelve ms
+
+pub whole-messages : (w : World) (ss : List (List ℕ)) (todo : List Action) → Ready w → w .marks .held ≡ 0 → run w ss todo .left ≡ []
+    → WholeMessages (run w ss todo .released ++ bytes (run w ss todo .world)) (unlimited (w .table) ss .messages)
+unfolding messagesIn
+whole-messages w ss todo ok none through =
+    let legal = all-legal ss (w .table) (ok .table) in
+    record {
+      cut = ap (λ (s : List ℕ). cutInto (length s) s) (streams w ss todo ok none through .messages)
+          ∙ cut-again (unlimited (w .table) ss .messages) legal _ (omega arith);
+      legal = legal;
+    }

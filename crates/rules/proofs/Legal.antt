@@ -1,0 +1,50 @@
+-- Values that obey their fields' rules, spelled, are a legal message. Assumes nothing.
+use mathlib.Core.Path.{_≡_, refl, sym, ap, ap₂, _∙_, subst}
+use mathlib.Core.Bool.{true}
+use mathlib.Core.Logic.{⊎-elim}
+use mathlib.Core.List.{List, [], _∷_, _++_, append-assoc, List·Memᴰ·cases-cons, List·Memᴰ·not-nil}
+use Prim.Native.Nat.{ℕ, _+_}
+use lib.ListN.{length, take, length-append}
+use lib.Seq.{take-at, drop-at}
+use Rattle.octets.specs.Bytes.{part}
+use Rattle.answers.specs.declared.Answer.the-variants.{Done}
+use Rattle.wire.specs.Layout.{Field, Values, spellValue, spellFields, Layout, spell, unbroken, wellLaid}
+use Rattle.wire.specs.Legal.{Obeys, AllObey}
+use Rattle.wire.specs.Messages.{readAnswer}
+use Rattle.wire.proofs.Layouts.{Sized, length-value, length-spelled, first-at, rest-unbroken}
+use Rattle.wire.proofs.Exactly.{done-exactly}
+
+part-there : (p b q : List ℕ) (at width : ℕ) → length p ≡ at → length b ≡ width → part (p ++ (b ++ q)) at width ≡ b
+part-there p b q at width ep eb = ap (take width) (drop-at p (b ++ q) at ep) ∙ take-at b q width eb
+
+abbrev pub Obeying : (fs : List Field) → Values fs → Type 0
+Obeying [] v = Unit {0}
+Obeying (f ∷ fs) v = Obeys (f .rule) (spellValue (f .form) (f .width) (v .0)) × Obeying fs (v .1)
+
+fields-obey : (fs : List Field) (v : Values fs) (at size : ℕ) (p : List ℕ) → unbroken at size fs ≡ true → Sized fs v → Obeying fs v → length p ≡ at
+    → AllObey fs (p ++ spellFields fs v)
+fields-obey [] v at size p h sized good e f m = absurd (List·Memᴰ·not-nil m)
+fields-obey (g ∷ fs) v at size p h sized good e f m =
+    let b : List ℕ = spellValue (g .form) (g .width) (v .0) in
+    let r : List ℕ = spellFields fs (v .1) in
+    let eb : length b ≡ g .width = length-value (g .form) (g .width) (v .0) (sized .0) in
+    let n : length (p ++ b) ≡ at + g .width = length-append p b ∙ ap₂ _+_ e eb in
+    ⊎-elim
+    (λ same.
+    subst (λ (x : Field). Obeys (x .rule) (part (p ++ (b ++ r)) (x .at) (x .width))) (sym same)
+    (subst (Obeys (g .rule)) (sym (part-there p b r (g .at) (g .width) (e ∙ sym (first-at g fs at size h)) eb)) (good .0)))
+    (λ t.
+    subst (λ (s : List ℕ). Obeys (f .rule) (part s (f .at) (f .width))) (append-assoc p b r)
+    (fields-obey fs (v .1) (at + g .width) size (p ++ b) (rest-unbroken g fs at size h) (sized .1) (good .1) n f t))
+    (List·Memᴰ·cases-cons m)
+
+pub spelled-legal : (l : Layout) → wellLaid l ≡ true → (v : Values (l .fields)) → Sized (l .fields) v → Obeying (l .fields) v
+    → readAnswer l (spell l v) ≡ Done
+unfolding spell wellLaid
+spelled-legal l well v sized good =
+    done-exactly l (spell l v) .1
+    (record {
+      long = length-spelled l well v sized;
+      typed = refl;
+      judged = fields-obey (l .fields) v 1 (l .size) (l .code ∷ []) well sized good refl;
+    })
