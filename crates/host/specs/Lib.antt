@@ -1,5 +1,4 @@
 pub mod Types
 pub mod Step
-pub mod Day
 pub mod Cases
 pub mod Edges

@@ -33,9 +33,11 @@ use Rattle.market.specs.Taken.{sharesWrong, executionRule, bookCancelRule, self
 use Rattle.market.specs.Priority.{priorityRule}
 use Rattle.market.specs.Cross.{lateRule, crossDoneRule}
 use Rattle.market.specs.Day.{systemRule}
-use Rattle.host.specs.Types.{Decision, Order, Header}
+use Rattle.rules.specs.declared.plan.Decision.{Decision}
+use Rattle.table.specs.declared.order.Order.{Order}
+use Rattle.table.specs.declared.header.Header.{Header}
 use Rattle.host.specs.Step.{decide, decideMarket, noRecordFree, noReferenceLeft, withinLimits, comesTo}
-use Rattle.host.specs.Day.{isBlocked}
+use Rattle.day.specs.Day.{isBlocked}
 
 abbrev pub Open : Decision → Type 0
 Open d = isBlocked (d .answer) ≡ false

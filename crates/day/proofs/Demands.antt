@@ -8,12 +8,14 @@ use lib.ListN.{length}
 use Rattle.table.specs.Fresh.{freshAnswer, freshTable}
 use Rattle.table.proofs.Freshness.{fresh-sound}
 use Rattle.outbox.specs.Outbox.{ringGood}
-use Rattle.host.specs.Types.{Done, Marks, Settings}
+use Rattle.answers.specs.declared.Answer.the-variants.{Done}
+use Rattle.outbox.specs.declared.marks.Marks.{Marks}
+use Rattle.table.specs.declared.settings.Settings.{Settings}
 use Rattle.host.specs.Step.{World, world, step}
-use Rattle.host.specs.Day.{Action, unlimited, isBlocked, run, patient}
-use Rattle.host.proofs.Day.{Ready, bytes, Streams, streams}
-use Rattle.host.proofs.Stream.{WholeMessages, whole-messages}
-use Rattle.host.proofs.Progress.{never-blocked, patient-through}
+use Rattle.day.specs.Day.{Action, unlimited, isBlocked, run, patient}
+use Rattle.day.proofs.Day.{Ready, bytes, Streams, streams}
+use Rattle.day.proofs.Stream.{WholeMessages, whole-messages}
+use Rattle.day.proofs.Progress.{never-blocked, patient-through}
 
 module _ (t : List ℕ) (settings : Settings) (typed : length (settings .firms) ≡ 32) (taken : freshAnswer t settings ≡ Done)
     (ring : List ℕ) (m : Marks) (right : ringGood (length ring) m ≡ true) (empty : m .held ≡ 0)

@@ -20,11 +20,15 @@ use Rattle.outbox.proofs.With.{fits-free, length-with}
 use Rattle.outbox.proofs.Right.{good-with}
 use Rattle.outbox.proofs.Held.{held-with, length-held}
 use Rattle.outbox.proofs.Board.{refused-release-changes-nothing, release-keeps-good, release-drops, read-is-prefix}
 use Rattle.host.proofs.Sounds.{keeps}
-use Rattle.host.proofs.Unblocked.{unblocked}
-use Rattle.host.specs.Types.{Answer, Blocked, Done, Decision, Plan, Marks}
+use Rattle.day.proofs.Unblocked.{unblocked}
+use Rattle.answers.specs.declared.Answer.{Answer}
+use Rattle.answers.specs.declared.Answer.the-variants.{Blocked, Done}
+use Rattle.rules.specs.declared.plan.Decision.{Decision}
+use Rattle.rules.specs.declared.plan.Plan.{Plan}
+use Rattle.outbox.specs.declared.marks.Marks.{Marks}
 use Rattle.host.specs.Step.{World, Outcome, comesTo, noRoom, settle, offer, step, tableAfter, worldAfter, unchanged}
-use Rattle.host.specs.Day.{Played, telling, playOn, unlimited, Action, offerNext, look, release, Ran, isBlocked, withMarks, givenUp, offered, run}
+use Rattle.day.specs.Day.{Played, telling, playOn, unlimited, Action, offerNext, look, release, Ran, isBlocked, withMarks, givenUp, offered, run}
 
 -- ---- small things
 

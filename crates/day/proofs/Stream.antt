@@ -19,12 +19,12 @@ use Rattle.wire.proofs.Exactly.{done-exactly}
 use Rattle.table.specs.Table.{sound}
 use Rattle.tape.specs.Entries.{stampOf}
 use Rattle.rules.specs.Sent.{message, OneOfTwelve, AtMostOne, silent, told}
-use Rattle.host.specs.Types.{Decision}
+use Rattle.rules.specs.declared.plan.Decision.{Decision}
 use Rattle.host.specs.Step.{World, comesTo, tableAfter}
-use Rattle.host.specs.Day.{Played, telling, playOn, unlimited, Action, run, cutInto, messagesIn, AllOfTwelve}
+use Rattle.day.specs.Day.{Played, telling, playOn, unlimited, Action, run, cutInto, messagesIn, AllOfTwelve}
 use Rattle.host.proofs.Sounds.{keeps}
 use Rattle.host.proofs.Sent.{sends}
-use Rattle.host.proofs.Day.{Ready, bytes, streams}
+use Rattle.day.proofs.Day.{Ready, bytes, streams}
 
 -- ---- the messages of a play
 

@@ -12,8 +12,11 @@ use Rattle.wire.specs.Messages.{messageLength}
 use Rattle.outbox.specs.Outbox.{held, releaseAnswer, releaseMarks}
 use Rattle.rules.specs.Sent.{message, OneOfTwelve}
 use Rattle.tape.specs.Entries.{stampOf}
 use Rattle.host.specs.Step.{World, Outcome, step, comesTo, tableAfter}
-use Rattle.host.specs.Types.{Answer, Blocked, Done, Decision, Marks}
+use Rattle.answers.specs.declared.Answer.{Answer}
+use Rattle.answers.specs.declared.Answer.the-variants.{Blocked, Done}
+use Rattle.rules.specs.declared.plan.Decision.{Decision}
+use Rattle.outbox.specs.declared.marks.Marks.{Marks}
 
 -- ---- unlimited room: what the rules alone make of a list of entries
 

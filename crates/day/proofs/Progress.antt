@@ -20,14 +20,17 @@ use Rattle.outbox.specs.Outbox.{ringGood, freeBytes, releaseMarks, marksWithout
 use Rattle.outbox.proofs.Right.{right}
 use Rattle.outbox.proofs.Board.{held-is-enough, release-keeps-good}
 use Rattle.outbox.proofs.Guards.{release-marks-done}
-use Rattle.host.specs.Types.{Answer, Blocked, Done, Decision, Marks}
+use Rattle.answers.specs.declared.Answer.{Answer}
+use Rattle.answers.specs.declared.Answer.the-variants.{Blocked, Done}
+use Rattle.rules.specs.declared.plan.Decision.{Decision}
+use Rattle.outbox.specs.declared.marks.Marks.{Marks}
 use Rattle.host.specs.Step.{World, Outcome, comesTo, noRoom, step, tableAfter, worldAfter}
-use Rattle.host.specs.Day.{Action, offerNext, release, isBlocked, withMarks, run, offered, emptied, patient}
+use Rattle.day.specs.Day.{Action, offerNext, release, isBlocked, withMarks, run, offered, emptied, patient}
 use Rattle.host.proofs.Steps.{stepBy, step-by, comes, only-done-changes}
-use Rattle.host.proofs.Day.{Ready, ring-after}
+use Rattle.day.proofs.Day.{Ready, ring-after}
 use Rattle.host.proofs.Sounds.{keeps}
 use Rattle.host.proofs.Sent.{short}
-use Rattle.host.proofs.Unblocked.{unblocked}
+use Rattle.day.proofs.Unblocked.{unblocked}
 
 -- ---- an empty outbox
 

@@ -1,0 +1,5 @@
+pub mod Unblocked
+pub mod Day
+pub mod Stream
+pub mod Progress
+pub mod Demands
