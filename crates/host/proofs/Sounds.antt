@@ -80,7 +80,7 @@ rejected-fit token n =
     }
 
 -- what is added where anything is
-added-fit : {token : List ℕ} {named : Order} (o : Order) → NewToken token → Addition token named o → isUsed o ≡ true → Fit o
+pub added-fit : {token : List ℕ} {named : Order} (o : Order) → NewToken token → Addition token named o → isUsed o ≡ true → Fit o
 added-fit o n (nothing e) u = absurd (false≢true (sym none-unused ∙ ap isUsed (sym e) ∙ u))
 added-fit o n (rejected e) u = subst Fit (sym e) (rejected-fit _ n)
 added-fit o n (entered b) u = born-good o b (n .legal)
@@ -126,15 +126,15 @@ module _ (t s : List ℕ) (ok : sound t ≡ true) (done : isDone (comesTo t s .a
   )
 
   -- after the named order
-  abbrev one : List ℕ
+  abbrev pub one : List ℕ
   one = storeIf t place (p .changed)
 
-  record Kept₁ : Type 0 where
-    long : length one ≡ length t
-    head : header one ≡ header t
-    good : sound one ≡ true
+  pub record Kept₁ : Type 0 where
+    pub long : length one ≡ length t
+    pub head : header one ≡ header t
+    pub good : sound one ≡ true
 
-  kept₁ : Kept₁
+  pub kept₁ : Kept₁
   unfolding storeIf
   kept₁ = by (isUsed (p .changed)) refl
     where
@@ -165,18 +165,18 @@ module _ (t s : List ℕ) (ok : sound t ≡ true) (done : isDone (comesTo t s .a
       omega (arith, differ, S .head .highest-reference)
 
   -- after the added one
-  abbrev two : List ℕ
+  abbrev pub two : List ℕ
   two = storeIf one (h .used) (p .added)
 
-  record Kept₂ : Type 0 where
-    long : length two ≡ length t
-    records : (j : ℕ) → j < h .used + oneIf (isUsed (p .added)) → recordSound (recordBytes two j) ≡ true
+  pub record Kept₂ : Type 0 where
+    pub long : length two ≡ length t
+    pub records : (j : ℕ) → j < h .used + oneIf (isUsed (p .added)) → recordSound (recordBytes two j) ≡ true
 
   one-records : (j : ℕ) → j < h .used → recordSound (recordBytes one j) ≡ true
   one-records j l =
       to-record (recordBytes one j) (of-sound one (kept₁ .good) .records j (subst (λ (q : Header). j < q .used) (sym (kept₁ .head)) l))
 
-  kept₂ : Kept₂
+  pub kept₂ : Kept₂
   unfolding storeIf
   kept₂ = by (isUsed (p .added)) refl
     where
@@ -191,7 +191,7 @@ module _ (t s : List ℕ) (ok : sound t ≡ true) (done : isDone (comesTo t s .a
       by false u = record { long = rw u (kept₁ .long); records = rw u (λ j l. one-records j (omega arith)) }
 
   -- the header after it
-  abbrev after : Header
+  abbrev pub after : Header
   after = headerAfter h (stampOf s) p
 
   day-good : after .day ≤ dayClosed
@@ -235,7 +235,7 @@ module _ (t s : List ℕ) (ok : sound t ≡ true) (done : isDone (comesTo t s .a
         rest = S .head .rest;
       }
 
-  whole : WholeHeader after
+  pub whole : WholeHeader after
   unfolding headerAfter
   whole =
       let g = good in
