@@ -3,12 +3,13 @@
 use mathlib.Core.Path.{_≡_, refl, sym, ap, _∙_, subst}
 use mathlib.Core.Logic.{_≢_}
 use mathlib.Core.List.{List}
-use Prim.Native.Nat.{ℕ, _+_, _<_}
+use Prim.Native.Nat.{ℕ, _+_, _≤_, _<_}
 use native.Mathlib.Decide.{ℕ-discrete}
 use native.Mathlib.Omega.{arith}
 use Rattle.octets.specs.Bytes.{zeros}
 use Rattle.wire.specs.Letters.{live}
 use Rattle.wire.specs.Limits.{tokenSize}
+use Rattle.table.specs.Limits.{mostShares}
 use Rattle.host.proofs.Records.{Face}
 
 -- x has executed what was told, and what the order before it had: there is none, or it is among the n and no longer live
@@ -20,6 +21,7 @@ pub record Balanced (n : ℕ) (f : ℕ → Face) (told : List ℕ → ℕ) : Typ
   -- no two records have one token
   pub apart : (i j : ℕ) → i < n → j < n → f i .token ≡ f j .token → i ≡ j
   pub carries : (i : ℕ) → i < n → Carries n f (told (f i .token)) (f i)
+  pub most : (i : ℕ) → i < n → f i .executed ≤ mostShares
   -- and nothing was told of a token that no record has
   pub untold : (token : List ℕ) → ((i : ℕ) → i < n → f i .token ≡ token → ⊥) → told token ≡ 0
 
@@ -43,12 +45,14 @@ module _ (n : ℕ) (f g : ℕ → Face) (told : List ℕ → ℕ) (ok : Balanced
             subst (λ (y : Face). Carries n g (later (y .token)) y) (sym (same i l))
             (subst (λ (k : ℕ). Carries n g k (f i)) (sym (unmoved (f i .token)))
             (carries-on n n f g _ (f i) (λ j b _. (b, same j b)) (ok .carries i l)));
+        most = λ i l. subst (λ (y : Face). y .executed ≤ mostShares) (sym (same i l)) (ok .most i l);
         untold = λ t none. unmoved t ∙ ok .untold t (λ i l e. none i l (token i l ∙ e));
       }
 
   -- the live record p has executed k more, and as much is told under its token
   module _ (p k : ℕ) (l : p < n) (alive : f p .state ≡ live) (others : (i : ℕ) → i < n → i ≢ p → g i ≡ f i)
       (token : g p .token ≡ f p .token) (previous : g p .previous ≡ f p .previous) (executed : g p .executed ≡ f p .executed + k)
+      (within : g p .executed ≤ mostShares)
       (later : List ℕ → ℕ) (told-more : later (f p .token) ≡ told (f p .token) + k)
       (unmoved : (t : List ℕ) → (f p .token ≡ t → ⊥) → later t ≡ told t)
     where
@@ -79,48 +83,61 @@ module _ (n : ℕ) (f g : ℕ → Face) (told : List ℕ → ℕ) (ok : Balanced
             (carries-on n n f g _ (f i) ended-stay (ok .carries i a)))
       ]
 
+      few : (i : ℕ) → i < n → g i .executed ≤ mostShares
+      few i a = elim (ℕ-discrete i p) [
+        | yes e ↦ rw e within
+        | no e ↦ subst (λ (y : Face). y .executed ≤ mostShares) (sym (others i a e)) (ok .most i a)
+      ]
+
       pub moved : Balanced n g later
       moved =
           record {
             apart = λ i j a b e. ok .apart i j a b (sym (tokens i a) ∙ e ∙ tokens j b);
             carries = carried;
+            most = few;
             untold = λ t none.
                 unmoved t (λ e. none p l (token ∙ e)) ∙ ok .untold t (λ i a e. none i a (tokens i a ∙ e));
           }
 
   -- a record more, under a token that none has
-  module _ (same : (i : ℕ) → i < n → g i ≡ f i) (new : (i : ℕ) → i < n → f i .token ≡ g n .token → ⊥) (carry : Carries n f 0 (g n)) where
-    with-new : (j : ℕ) → j < n → (f j .state ≡ live → ⊥) → (j < n + 1) × (g j ≡ f j)
-    with-new j l _ = (omega arith, same j l)
+  module _ (same : (i : ℕ) → i < n → g i ≡ f i) (new : (i : ℕ) → i < n → f i .token ≡ g n .token → ⊥) (carry : Carries n f 0 (g n))
+      (within : g n .executed ≤ mostShares)
+    where
+      with-new : (j : ℕ) → j < n → (f j .state ≡ live → ⊥) → (j < n + 1) × (g j ≡ f j)
+      with-new j l _ = (omega arith, same j l)
 
-    old-token : (i : ℕ) → i < n → g i .token ≡ f i .token
-    old-token i l = ap (λ (y : Face). y .token) (same i l)
+      old-token : (i : ℕ) → i < n → g i .token ≡ f i .token
+      old-token i l = ap (λ (y : Face). y .token) (same i l)
 
-    apart-still : (i j : ℕ) → i < n + 1 → j < n + 1 → g i .token ≡ g j .token → i ≡ j
-    apart-still i j a b e = elim (ℕ-discrete i n) [
-      | yes x ↦ elim (ℕ-discrete j n) [
-        | yes y ↦ omega (arith, x, y)
-        | no y ↦ absurd (new j (omega (arith, y)) (sym (old-token j (omega (arith, y))) ∙ sym e ∙ ap (λ (q : ℕ). g q .token) x))
+      apart-still : (i j : ℕ) → i < n + 1 → j < n + 1 → g i .token ≡ g j .token → i ≡ j
+      apart-still i j a b e = elim (ℕ-discrete i n) [
+        | yes x ↦ elim (ℕ-discrete j n) [
+          | yes y ↦ omega (arith, x, y)
+          | no y ↦ absurd (new j (omega (arith, y)) (sym (old-token j (omega (arith, y))) ∙ sym e ∙ ap (λ (q : ℕ). g q .token) x))
+        ]
+        | no x ↦ elim (ℕ-discrete j n) [
+          | yes y ↦ absurd (new i (omega (arith, x)) (sym (old-token i (omega (arith, x))) ∙ e ∙ ap (λ (q : ℕ). g q .token) y))
+          | no y ↦ ok .apart i j (omega (arith, x)) (omega (arith, y)) (sym (old-token i (omega (arith, x))) ∙ e ∙ old-token j (omega (arith, y)))
+        ]
       ]
-      | no x ↦ elim (ℕ-discrete j n) [
-        | yes y ↦ absurd (new i (omega (arith, x)) (sym (old-token i (omega (arith, x))) ∙ e ∙ ap (λ (q : ℕ). g q .token) y))
-        | no y ↦ ok .apart i j (omega (arith, x)) (omega (arith, y)) (sym (old-token i (omega (arith, x))) ∙ e ∙ old-token j (omega (arith, y)))
-      ]
-    ]
 
-    pub grown : Balanced (n + 1) g told
-    grown =
-        record {
-          apart = apart-still;
-          carries = λ i l. elim (ℕ-discrete i n) [
-            | yes e ↦
-                subst (λ (q : ℕ). Carries (n + 1) g (told (g q .token)) (g q)) (sym e)
-                (subst (λ (k : ℕ). Carries (n + 1) g k (g n)) (sym (ok .untold (g n .token) new))
-                (carries-on n (n + 1) f g 0 (g n) with-new carry))
-            | no e ↦
-                let a : i < n = omega (arith, e) in
-                subst (λ (y : Face). Carries (n + 1) g (told (y .token)) y) (sym (same i a))
-                (carries-on n (n + 1) f g _ (f i) with-new (ok .carries i a))
-          ];
-          untold = λ t none. ok .untold t (λ i l e. none i (omega arith) (old-token i l ∙ e));
-        }
+      pub grown : Balanced (n + 1) g told
+      grown =
+          record {
+            apart = apart-still;
+            carries = λ i l. elim (ℕ-discrete i n) [
+              | yes e ↦
+                  subst (λ (q : ℕ). Carries (n + 1) g (told (g q .token)) (g q)) (sym e)
+                  (subst (λ (k : ℕ). Carries (n + 1) g k (g n)) (sym (ok .untold (g n .token) new))
+                  (carries-on n (n + 1) f g 0 (g n) with-new carry))
+              | no e ↦
+                  let a : i < n = omega (arith, e) in
+                  subst (λ (y : Face). Carries (n + 1) g (told (y .token)) y) (sym (same i a))
+                  (carries-on n (n + 1) f g _ (f i) with-new (ok .carries i a))
+            ];
+            most = λ i l. elim (ℕ-discrete i n) [
+              | yes e ↦ rw e within
+              | no e ↦ subst (λ (y : Face). y .executed ≤ mostShares) (sym (same i (omega (arith, e)))) (ok .most i (omega (arith, e)))
+            ];
+            untold = λ t none. ok .untold t (λ i l e. none i (omega arith) (old-token i l ∙ e));
+          }

@@ -1,6 +1,8 @@
 pub mod Unblocked
 pub mod Ledger
 pub mod Tokens
+pub mod Telling
+pub mod Chains
 pub mod Day
 pub mod Stream
 pub mod Progress

@@ -6,7 +6,7 @@ use mathlib.Core.List.{List, [], _∷_}
 use Prim.Native.Nat.{ℕ, _+_, _≤_, _<_}
 use native.Mathlib.Decide.{decLt, ℕ-discrete}
 use native.Mathlib.Omega.{arith}
-use borrow.Author.Tests.{ltb-true}
+use borrow.Author.Tests.{ltb-true, le-ltb}
 use lib.Dec.{ltb}
 use lib.ListN.{length}
 use Rattle.octets.specs.Choice.{pick}
@@ -45,6 +45,10 @@ module _ (t token : List ℕ) where
     | yes h ↦ ap isUsed (named-is t token h) ∙ good-used (recordBytes t (placeOf t token)) _ (ok .records (placeOf t token) h .standing)
     | no h ↦ absurd (not-found t token (omega arith) i l has)
   ]
+
+  pub named-none : header t .used ≤ placeOf t token → orderNamed t token ≡ noOrder
+  unfolding orderNamed orderFrom
+  named-none h = rw (le-ltb _ _ h)
 
   pub used-has : isUsed (orderNamed t token) ≡ true → placeOf t token < header t .used
   unfolding orderNamed orderFrom

@@ -1,0 +1,302 @@
+-- No chain ever executes above 999,999 shares: from a fresh table on, whatever is played, what the messages tell as executed along a chain of
+-- replacements is at most what the chain's last order has executed. Assumes nothing.
+use mathlib.Core.Path.{_≡_, refl, sym, ap, ap₂, _∙_, subst}
+use mathlib.Core.Bool.{Bool, true, false, false≢true}
+use mathlib.Core.Logic.{_⊎_, inl, inr, _≢_}
+use mathlib.Core.List.{List, [], _∷_, _++_, append-assoc, append-nil}
+use Prim.Native.Nat.{ℕ, zero, suc, _+_, _^_, _≤_, _<_}
+use native.Mathlib.Decide.{decLt, ℕ-discrete}
+use native.Mathlib.Omega.{arith}
+use lib.ListN.{length}
+use Rattle.octets.specs.Choice.{pick, allBelow}
+use Rattle.octets.specs.Bytes.{same, zeros, numberOf, numberFrom}
+use Rattle.octets.proofs.Below.{same-true, same-self}
+use Rattle.answers.specs.Answer.{isDone}
+use Rattle.wire.specs.Letters.{live, dead}
+use Rattle.wire.specs.Limits.{tokenSize}
+use Rattle.wire.specs.Text.{tokenByte, capital, small, digit}
+use Rattle.table.specs.Limits.{mostShares}
+use Rattle.table.specs.Counts.{newCounts}
+use Rattle.table.specs.Order.{isUsed, isLive, noOrder, rejectedOrder, orderOf}
+use Rattle.table.specs.Table.{header, orderAt, placeOf, orderNamed, sound}
+use Rattle.table.specs.declared.order.Order.{Order}
+use Rattle.table.proofs.Judged.{legalToken as judgedToken}
+use Rattle.table.proofs.Soundness.{Sound, of-sound}
+use Rattle.table.proofs.Finding.{found}
+use Rattle.tape.specs.Entries.{stampOf, tokenOf}
+use Rattle.rules.specs.declared.plan.Decision.{Decision}
+use Rattle.rules.specs.declared.plan.Notice.{Notice}
+use Rattle.rules.specs.declared.plan.Notice.the-variants.{Accepted, AiqCancelled, CancelPending, CancelReject, Canceled, Executed, Modified, PriorityUpdate, Rejected, Replaced, Silent, SystemEvent}
+use Rattle.rules.specs.declared.plan.Plan.{Plan}
+use Rattle.rules.specs.Sane.{Shaped, Changed, Born, toldExecuted, OfNobody, Shape, nobody, changes, accepts, rejects, replaces}
+use Rattle.rules.specs.Sent.{message, noticeBytes}
+use Rattle.rules.proofs.Standing.{live-state, executed-most}
+use Rattle.host.specs.Step.{oneIf, comesTo, tableAfter}
+use Rattle.host.proofs.Given.{named-is, named-used, shaped-none}
+use Rattle.host.proofs.Sounds.{S, P, K, keeps, p, place, named, one, none-unused}
+use Rattle.host.proofs.Records.{Face, face, faceAt, left, left-used, changed-face, unchanged-face, unchanged-faces, added-face, earlier-face}
+use Rattle.day.specs.Day.{telling, playOn, unlimited}
+use Rattle.day.specs.Chain.{executedIn, chain, executedAlong}
+use Rattle.day.proofs.Ledger.{Carries, fromNothing, fromBefore, Balanced, still, moved, grown}
+use Rattle.day.proofs.Tokens.{named-none, has-used, used-has, standing-used, tokens-stay, left-is}
+use Rattle.day.proofs.Telling.{tells, executed-append, executed-telling}
+
+-- the ledger of a table, of the messages told so far
+abbrev pub Books : List ℕ → List (List ℕ) → Type 0
+Books t past = Balanced (header t .used) (faceAt t) (λ token. executedIn token past)
+
+nobody-tells : (notice : Notice) → OfNobody notice → toldExecuted notice ≡ 0
+nobody-tells Silent of = refl
+nobody-tells (SystemEvent event) of = refl
+nobody-tells Accepted of = refl
+nobody-tells Replaced of = refl
+nobody-tells (Canceled decrement reason) of = refl
+nobody-tells (AiqCancelled e) of = refl
+nobody-tells (Executed e) of = absurd of
+nobody-tells (Rejected reason) of = refl
+nobody-tells CancelPending of = refl
+nobody-tells CancelReject of = refl
+nobody-tells PriorityUpdate of = refl
+nobody-tells Modified of = refl
+
+-- ---- one done entry
+
+module _ (t s : List ℕ) (ok : sound t ≡ true) (done : isDone (comesTo t s .answer) ≡ true) (past : List (List ℕ)) (books : Books t past) where
+  abbrev plan : Plan
+  plan = p t s ok done
+
+  abbrev o : Order
+  o = named t s ok done
+
+  abbrev at : ℕ
+  at = place t s ok done
+
+  abbrev used : ℕ
+  used = header t .used
+
+  abbrev mid : List ℕ
+  mid = one t s ok done
+
+  abbrev end : List ℕ
+  end = left t s ok done
+
+  abbrev told : List ℕ → ℕ
+  told token = executedIn token past
+
+  -- what is told with this entry's message
+  abbrev later : List ℕ → ℕ
+  later token = executedIn token (past ++ telling (message (stampOf s) plan) [])
+
+  told-later : length (plan .changed .token) ≡ tokenSize → toldExecuted (plan .notice) < 256 ^ 4 → (token : List ℕ)
+      → later token ≡ told token + pick (same (plan .changed .token) token) (toldExecuted (plan .notice)) 0
+  unfolding message
+  told-later long fits token =
+      executed-append token past _
+      ∙ ap (λ (n : ℕ). told token + n)
+      (executed-telling token (message (stampOf s) plan) ∙ tells (stampOf s) (plan .changed) (plan .added) (plan .notice) token long fits)
+
+  -- ---- the named order
+
+  -- nothing of it changes, and nothing is told as executed
+  silent : plan .changed ≡ noOrder → toldExecuted (plan .notice) ≡ 0 → Balanced used (faceAt mid) later
+  silent none quiet =
+      still used (faceAt t) (faceAt mid) told books later (λ i l. unchanged-faces t s ok done (ap isUsed none ∙ none-unused) i) λ token.
+      told-later (ap (λ (q : Order). length (q .token)) none ∙ shaped-none .token) (omega (arith, quiet)) token
+      ∙ by (same (plan .changed .token) token)
+    where
+      by : (b : Bool) {n : ℕ} → n + pick b (toldExecuted (plan .notice)) 0 ≡ n
+      by true = omega (arith, quiet)
+      by false = omega arith
+
+  module _ (c : Changed o (plan .notice) (plan .changed)) where
+    there : at < used
+    there = named-used t (tokenOf s) (c .alive)
+
+    is : face o ≡ faceAt t at
+    is = ap face (named-is t (tokenOf s) there)
+
+    becomes : faceAt mid at ≡ face (plan .changed)
+    becomes = changed-face t s ok done (standing-used (c .standing))
+
+    all-told : (token : List ℕ) → later token ≡ told token + pick (same (plan .changed .token) token) (toldExecuted (plan .notice)) 0
+    all-told = told-later (c .shaped .token) (omega (arith, c .executed, executed-most (plan .changed) (c .standing)))
+
+    own : same (plan .changed .token) (faceAt t at .token) ≡ true
+    own = ap (λ (x : List ℕ). same x (faceAt t at .token)) (c .token ∙ ap (λ (x : Face). x .token) is) ∙ same-self (faceAt t at .token)
+
+    other : (token : List ℕ) → (faceAt t at .token ≡ token → ⊥) → same (plan .changed .token) token ≡ false
+    other token apart = by (same (plan .changed .token) token) refl
+      where
+        by : (b : Bool) → same (plan .changed .token) token ≡ b → b ≡ false
+        by true e = absurd (apart (sym (ap (λ (x : Face). x .token) is) ∙ sym (c .token) ∙ same-true _ _ e))
+        by false e = refl
+
+    speaking : Balanced used (faceAt mid) later
+    speaking =
+        moved used (faceAt t) (faceAt mid) told books at (toldExecuted (plan .notice)) there
+        (sym (ap (λ (x : Face). x .state) is) ∙ live-state o (c .alive))
+        (λ i l apart. unchanged-face t s ok done i apart)
+        (ap (λ (x : Face). x .token) becomes ∙ c .token ∙ ap (λ (x : Face). x .token) is)
+        (ap (λ (x : Face). x .previous) becomes ∙ c .previous ∙ ap (λ (x : Face). x .previous) is)
+        (ap (λ (x : Face). x .executed) becomes ∙ c .executed ∙ ap (λ (x : Face). x .executed + toldExecuted (plan .notice)) is)
+        (subst (λ (x : Face). x .executed ≤ mostShares) (sym becomes) (executed-most (plan .changed) (c .standing)))
+        later
+        (all-told (faceAt t at .token) ∙ ap (λ (b : Bool). told (faceAt t at .token) + pick b (toldExecuted (plan .notice)) 0) own)
+        (λ token apart.
+        all-told token ∙ ap (λ (b : Bool). told token + pick b (toldExecuted (plan .notice)) 0) (other token apart) ∙ omega arith)
+
+  -- ---- the added one
+
+  -- there is none
+  no-more : plan .added ≡ noOrder → Balanced used (faceAt mid) later → Balanced (header end .used) (faceAt end) later
+  no-more none b =
+      let same-used : header end .used ≡ used = left-used t s ok done ∙ ap (λ (q : Order). used + oneIf (isUsed q)) none ∙ ap (λ (x : Bool). used + oneIf x) none-unused ∙ omega arith in
+      subst (λ (n : ℕ). Balanced n (faceAt end) later) (sym same-used)
+      (still used (faceAt mid) (faceAt end) later b later (λ i l. earlier-face t s ok done i l) (λ _. refl))
+
+  -- there is one, under the token that the entry uses up
+  module _ (is-used : isUsed (plan .added) ≡ true) (free : isUsed (orderNamed t (K t s ok done .0)) ≡ false)
+      (has : plan .added .token ≡ K t s ok done .0)
+    where
+      new : (i : ℕ) → i < used → faceAt mid i .token ≡ faceAt end used .token → ⊥
+      new i l e =
+          let token = K t s ok done .0 in
+          let here : orderAt t i .token ≡ token =
+          sym (tokens-stay t s ok done i l)
+          ∙ ap (λ (x : Face). x .token) (earlier-face t s ok done i l)
+          ∙ e
+          ∙ ap (λ (x : Face). x .token) (added-face t s ok done is-used)
+          ∙ has in
+          false≢true (sym free ∙ has-used t token (S t s ok done) i l here)
+
+      one-more : Carries used (faceAt mid) 0 (face (plan .added)) → plan .added .shares .executed .0 ≤ mostShares → Balanced used (faceAt mid) later → Balanced (header end .used) (faceAt end) later
+      one-more carry few b =
+          subst (λ (n : ℕ). Balanced n (faceAt end) later) (sym (left-used t s ok done ∙ ap (λ (x : Bool). used + oneIf x) is-used))
+          (grown used (faceAt mid) (faceAt end) later b (λ i l. earlier-face t s ok done i l) new
+          (subst (Carries used (faceAt mid) 0) (sym (added-face t s ok done is-used)) carry)
+          (subst (λ (x : Face). x .executed ≤ mostShares) (sym (added-face t s ok done is-used)) few))
+
+  -- ---- both, by the plan's shape
+
+  born-used : {token before : List ℕ} {e m : ℕ} (new : Order) → Born token e m before new → isUsed new ≡ true
+  unfolding isUsed
+  born-used new b = rw (b .state)
+
+  by-shape : Shape o (orderNamed t (K t s ok done .0)) (K t s ok done .0) plan → Balanced (header end .used) (faceAt end) later
+  unfolding rejectedOrder newCounts noOrder orderOf isUsed
+  by-shape (nobody c a of) = no-more a (silent c (nobody-tells (plan .notice) of))
+  by-shape (changes c a of) = no-more a (speaking c)
+  by-shape (accepts free c born e) =
+      one-more (born-used (plan .added) born) free (born .token) (fromNothing (born .previous) (born .executed)) (omega (arith, born .executed))
+      (silent c (ap toldExecuted e))
+  by-shape (rejects free c a reason e) =
+      one-more (ap isUsed a) free (ap (λ (q : Order). q .token) a)
+      (fromNothing (ap (λ (q : Order). q .details .previous) a) (ap (λ (q : Order). q .shares .executed .0) a))
+      (omega (arith, ap (λ (q : Order). q .shares .executed .0) a))
+      (silent c (ap toldExecuted e))
+  by-shape (replaces free c is-dead born e) =
+      let c′ : Changed o (plan .notice) (plan .changed) = rw e c in
+      let stored = becomes c′ in
+      let shares = born .shares in
+      one-more (born-used (plan .added) born) free (born .token)
+      (fromBefore at (there c′) (ap (λ (x : Face). x .token) stored ∙ c .token ∙ sym (born .previous))
+      (λ alive. let z : _≡_ {A = ℕ} dead live = sym is-dead ∙ sym (ap (λ (x : Face). x .state) stored) ∙ alive in omega (arith, z))
+      (omega (arith, born .executed, c .executed, ap (λ (x : Face). x .executed) stored)))
+      (omega arith)
+      (speaking c′)
+
+  -- the table and the messages as a play has them
+  pub turned : Books (tableAfter t s (comesTo t s .plan)) (past ++ telling (message (stampOf s) (comesTo t s .plan)) [])
+  turned =
+      subst (λ (d : Decision). Books (tableAfter t s (d .plan)) (past ++ telling (message (stampOf s) (d .plan)) [])) (sym (P t s ok done .is))
+      (by-shape (K t s ok done .1 .1 .shape))
+
+-- ---- any tape
+
+-- where no record is used and nothing was told yet
+pub opened-books : (t : List ℕ) → header t .used ≡ 0 → Books t []
+unfolding executedIn
+opened-books t none =
+    record {
+      apart = λ i j a b e. absurd (omega (arith, none));
+      carries = λ i l. absurd (omega (arith, none));
+      most = λ i l. absurd (omega (arith, none));
+      untold = λ token nobody. refl;
+    }
+
+in-front : (m : List ℕ) (past ms : List (List ℕ)) → (past ++ telling m []) ++ ms ≡ past ++ telling m ms
+in-front [] past ms = ap (λ (l : List (List ℕ)). l ++ ms) (append-nil past)
+in-front (b ∷ bs) past ms = append-assoc past ((b ∷ bs) ∷ []) ms
+
+pub books-kept : (ss : List (List ℕ)) (t : List ℕ) (past : List (List ℕ)) → sound t ≡ true → Books t past
+    → Books (unlimited t ss .table) (past ++ unlimited t ss .messages)
+unfolding unlimited
+books-kept [] t past ok books = subst (Books t) (sym (append-nil past)) books
+books-kept (s ∷ ss) t past ok books = by (isDone (comesTo t s .answer)) refl (books-kept ss)
+  where
+    by : (b : Bool) → isDone (comesTo t s .answer) ≡ b
+        → ((t′ : List ℕ) (past′ : List (List ℕ)) → sound t′ ≡ true → Books t′ past′ → Books (unlimited t′ ss .table) (past′ ++ unlimited t′ ss .messages))
+        → Books (playOn t s (comesTo t s) b (λ t′. unlimited t′ ss) .table) (past ++ playOn t s (comesTo t s) b (λ t′. unlimited t′ ss) .messages)
+    by true done rest =
+        let m = message (stampOf s) (comesTo t s .plan) in
+        let t′ = tableAfter t s (comesTo t s .plan) in
+        subst (Books (unlimited t′ ss .table)) (in-front m past (unlimited t′ ss .messages))
+        (rest t′ (past ++ telling m []) (keeps t s ok done) (turned t s ok done past books))
+    by false e rest = rest t past ok books
+
+-- ---- along a chain
+
+none-executed : noOrder .shares .executed .0 ≡ 0
+unfolding noOrder orderOf numberOf numberFrom
+none-executed = refl
+
+no-token : judgedToken (zeros tokenSize) ≡ false
+unfolding allBelow tokenByte capital small digit
+no-token = refl
+
+module _ (t : List ℕ) (ok : Sound t) (ms : List (List ℕ)) (books : Books t ms) where
+  -- zeros are no token
+  before-first : orderNamed t (zeros tokenSize) .shares .executed .0 ≡ 0
+  unfolding orderAt
+  before-first = elim (decLt (placeOf t (zeros tokenSize)) (header t .used)) [
+    | yes l ↦
+        absurd (false≢true (sym no-token ∙ ap judgedToken (sym (found t (zeros tokenSize) l .has)) ∙ ok .records (placeOf t (zeros tokenSize)) l .token))
+    | no l ↦ ap (λ (q : Order). q .shares .executed .0) (named-none t (zeros tokenSize) (omega arith)) ∙ none-executed
+  ]
+
+  -- a token that a record has names that record
+  names : (j : ℕ) → j < header t .used → (token : List ℕ) → orderAt t j .token ≡ token → orderNamed t token ≡ orderAt t j
+  names j l token has =
+      let q = used-has t token (has-used t token ok j l has) in
+      named-is t token q ∙ ap (orderAt t) (books .apart (placeOf t token) j q l (found t token q .has ∙ sym has))
+
+  along : (n : ℕ) (token : List ℕ) → executedAlong (chain t n token) ms ≤ orderNamed t token .shares .executed .0
+  unfolding chain executedAlong
+  along zero token = omega arith
+  along (suc n) token = by (isUsed (orderNamed t token)) refl (along n)
+    where
+      at : ℕ
+      at = placeOf t token
+
+      back : Carries (header t .used) (faceAt t) (executedIn (orderAt t at .token) ms) (faceAt t at)
+          → orderAt t at .token ≡ token
+          → executedAlong (chain t n (orderAt t at .details .previous)) ms ≤ orderNamed t (orderAt t at .details .previous) .shares .executed .0
+          → executedIn token ms + executedAlong (chain t n (orderAt t at .details .previous)) ms ≤ orderAt t at .shares .executed .0
+      back (fromNothing first all) has less =
+          omega (arith, all, ap (λ (x : List ℕ). executedIn x ms) has, less, ap (λ (x : List ℕ). orderNamed t x .shares .executed .0) first, before-first)
+      back (fromBefore j l is ended all) has less =
+          omega (arith, all, ap (λ (x : List ℕ). executedIn x ms) has, less, ap (λ (q : Order). q .shares .executed .0) (names j l _ is))
+
+      by : (b : Bool) → isUsed (orderNamed t token) ≡ b
+          → ((before : List ℕ) → executedAlong (chain t n before) ms ≤ orderNamed t before .shares .executed .0)
+          → executedAlong (pick b (token ∷ chain t n (orderNamed t token .details .previous)) []) ms ≤ orderNamed t token .shares .executed .0
+      by true u less =
+          let l = used-has t token u in
+          rw (named-is t token l) (back (books .carries at l) (found t token l .has) (less (orderAt t at .details .previous)))
+      by false u less = omega arith
+
+  pub never-above : (n : ℕ) (token : List ℕ) → executedAlong (chain t n token) ms ≤ mostShares
+  never-above n token = elim (decLt (placeOf t token) (header t .used)) [
+    | yes l ↦ omega (arith, along n token, ap (λ (q : Order). q .shares .executed .0) (named-is t token l), books .most (placeOf t token) l)
+    | no l ↦ omega (arith, along n token, ap (λ (q : Order). q .shares .executed .0) (named-none t token (omega arith)), none-executed)
+  ]
