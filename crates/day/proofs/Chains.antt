@@ -35,8 +35,9 @@ use Rattle.host.specs.Step.{oneIf, comesTo, tableAfter}
 use Rattle.host.proofs.Given.{named-is, named-used, shaped-none}
 use Rattle.host.proofs.Sounds.{S, P, K, keeps, p, place, named, one, none-unused}
 use Rattle.host.proofs.Records.{Face, face, faceAt, left, left-used, changed-face, unchanged-face, unchanged-faces, added-face, earlier-face}
-use Rattle.day.specs.Day.{telling, playOn, unlimited}
+use Rattle.day.specs.Day.{telling, unlimited}
 use Rattle.day.specs.Chain.{executedIn, chain, executedAlong}
+use Rattle.day.proofs.Plays.{plays}
 use Rattle.day.proofs.Ledger.{Carries, fromNothing, fromBefore, Balanced, still, moved, grown}
 use Rattle.day.proofs.Tokens.{named-none, has-used, used-has, standing-used, tokens-stay, left-is}
 use Rattle.day.proofs.Telling.{tells, executed-append, executed-telling}
@@ -224,25 +225,9 @@ opened-books t none =
       untold = λ token nobody. refl;
     }
 
-in-front : (m : List ℕ) (past ms : List (List ℕ)) → (past ++ telling m []) ++ ms ≡ past ++ telling m ms
-in-front [] past ms = ap (λ (l : List (List ℕ)). l ++ ms) (append-nil past)
-in-front (b ∷ bs) past ms = append-assoc past ((b ∷ bs) ∷ []) ms
-
 pub books-kept : (ss : List (List ℕ)) (t : List ℕ) (past : List (List ℕ)) → sound t ≡ true → Books t past
     → Books (unlimited t ss .table) (past ++ unlimited t ss .messages)
-unfolding unlimited
-books-kept [] t past ok books = subst (Books t) (sym (append-nil past)) books
-books-kept (s ∷ ss) t past ok books = by (isDone (comesTo t s .answer)) refl (books-kept ss)
-  where
-    by : (b : Bool) → isDone (comesTo t s .answer) ≡ b
-        → ((t′ : List ℕ) (past′ : List (List ℕ)) → sound t′ ≡ true → Books t′ past′ → Books (unlimited t′ ss .table) (past′ ++ unlimited t′ ss .messages))
-        → Books (playOn t s (comesTo t s) b (λ t′. unlimited t′ ss) .table) (past ++ playOn t s (comesTo t s) b (λ t′. unlimited t′ ss) .messages)
-    by true done rest =
-        let m = message (stampOf s) (comesTo t s .plan) in
-        let t′ = tableAfter t s (comesTo t s .plan) in
-        subst (Books (unlimited t′ ss .table)) (in-front m past (unlimited t′ ss .messages))
-        (rest t′ (past ++ telling m []) (keeps t s ok done) (turned t s ok done past books))
-    by false e rest = rest t past ok books
+books-kept ss t past ok books = plays Books (λ t′ s told good done b. turned t′ s good done told b) ss t past ok books
 
 -- ---- along a chain
 

@@ -1,4 +1,5 @@
 pub mod Unblocked
+pub mod Plays
 pub mod Ledger
 pub mod Tokens
 pub mod Telling

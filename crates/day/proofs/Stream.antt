@@ -20,30 +20,24 @@ use Rattle.table.specs.Table.{sound}
 use Rattle.tape.specs.Entries.{stampOf}
 use Rattle.rules.specs.Sent.{message, OneOfTwelve, AtMostOne, silent, told}
 use Rattle.rules.specs.declared.plan.Decision.{Decision}
-use Rattle.host.specs.Step.{World, comesTo, tableAfter}
-use Rattle.day.specs.Day.{Played, telling, playOn, unlimited, Action, run, cutInto, messagesIn, AllOfTwelve}
-use Rattle.host.proofs.Sounds.{keeps}
+use Rattle.host.specs.Step.{World, comesTo}
+use Rattle.day.specs.Day.{telling, unlimited, Action, run, cutInto, messagesIn, AllOfTwelve}
 use Rattle.host.proofs.Sent.{sends}
+use Rattle.day.proofs.Plays.{plays}
 use Rattle.day.proofs.Day.{Ready, bytes, streams}
 
 -- ---- the messages of a play
 
-telling-legal : (m : List ℕ) (ms : List (List ℕ)) → AtMostOne m → AllOfTwelve ms → AllOfTwelve (telling m ms)
-telling-legal [] ms one all = all
-telling-legal (b ∷ bs) ms (silent e) all = absurd (omega (arith, ap length e))
-telling-legal (b ∷ bs) ms (told one most) all = (one, all)
+one-behind : (past : List (List ℕ)) (m : List ℕ) → AtMostOne m → AllOfTwelve past → AllOfTwelve (past ++ telling m [])
+one-behind [] [] one all = tt
+one-behind [] (b ∷ bs) (silent e) all = absurd (omega (arith, ap length e))
+one-behind [] (b ∷ bs) (told one most) all = (one, tt)
+one-behind (x ∷ past) m one all = (all .0, one-behind past m one (all .1))
 
 pub all-legal : (ss : List (List ℕ)) (t : List ℕ) → sound t ≡ true → AllOfTwelve (unlimited t ss .messages)
-unfolding unlimited
-all-legal [] t ok = tt
-all-legal (s ∷ ss) t ok = by (isDone (comesTo t s .answer)) refl (all-legal ss)
-  where
-    by : (b : Bool) → isDone (comesTo t s .answer) ≡ b → ((t′ : List ℕ) → sound t′ ≡ true → AllOfTwelve (unlimited t′ ss .messages))
-        → AllOfTwelve (playOn t s (comesTo t s) b (λ t′. unlimited t′ ss) .messages)
-    by true done rest =
-        telling-legal (message (stampOf s) (comesTo t s .plan)) _ (sends t s ok done)
-        (rest (tableAfter t s (comesTo t s .plan)) (keeps t s ok done))
-    by false e rest = rest t ok
+all-legal ss t ok =
+    plays (λ t′ past. AllOfTwelve past)
+    (λ t′ s past good done all. one-behind past (message (stampOf s) (comesTo t′ s .plan)) (sends t′ s good done) all) ss t [] ok tt
 
 -- ---- cutting
 

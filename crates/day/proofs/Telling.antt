@@ -5,13 +5,13 @@ use mathlib.Core.List.{List, [], _∷_, _++_, append-assoc, append-nil}
 use Prim.Native.Nat.{ℕ, _+_, _^_, _<_}
 use native.Mathlib.Omega.{arith}
 use lib.Dec.{eqb}
-use lib.ListN.{length, take, getD, length-append}
-use lib.Seq.{take-at, drop-at}
+use lib.ListN.{length, getD, length-append}
 use Rattle.octets.specs.Choice.{pick}
 use Rattle.octets.specs.Bytes.{part, same, digits, numberOf}
 use Rattle.octets.proofs.Laws.{length-digits, number-digits}
 use Rattle.wire.specs.Limits.{tokenSize}
 use Rattle.wire.specs.Layout.{spell}
+use Rattle.wire.proofs.Layouts.{part-there}
 use Rattle.wire.specs.Messages.{executed}
 use Rattle.outbound.specs.Outbound.{systemEventBytes, acceptedBytes, replacedBytes, canceledBytes, aiqCancelledBytes, executedBytes, rejectedBytes, cancelPendingBytes, cancelRejectBytes, priorityUpdateBytes, modifiedBytes, executedOf}
 use Rattle.table.specs.declared.order.Order.{Order}
@@ -23,9 +23,6 @@ use Rattle.day.specs.Chain.{executedBy, executedIn}
 use Rattle.day.specs.Day.{telling}
 
 -- ---- one message
-
-part-there : (a b c : List ℕ) (at width : ℕ) → length a ≡ at → length b ≡ width → part (a ++ (b ++ c)) at width ≡ b
-part-there a b c at width ea eb = ap (take width) (drop-at a (b ++ c) at ea) ∙ take-at b c width eb
 
 -- the token and the shares of an Executed, read from its bytes
 module _ (stamp shares : ℕ) (token rest : List ℕ) (long : length token ≡ tokenSize) where

@@ -2,7 +2,7 @@
 use mathlib.Core.Path.{_≡_, refl, sym, ap, _∙_, subst}
 use mathlib.Core.Bool.{Bool, true, false, false≢true}
 use mathlib.Core.Logic.{_⊎_, inl, inr}
-use mathlib.Core.List.{List, [], _∷_}
+use mathlib.Core.List.{List, []}
 use Prim.Native.Nat.{ℕ, _+_, _≤_, _<_}
 use native.Mathlib.Decide.{decLt, ℕ-discrete}
 use native.Mathlib.Omega.{arith}
@@ -27,7 +27,8 @@ use Rattle.host.proofs.Given.{named-is, named-used}
 use Rattle.host.proofs.Sounds.{P, K, keeps, p, place, named, one, none-unused}
 use Rattle.host.proofs.Records.{Face, faceAt, left, left-used, changed-face, unchanged-face, unchanged-faces, earlier-face}
 use Rattle.host.proofs.Steps.{stepBy, step-by, comes}
-use Rattle.day.specs.Day.{playOn, unlimited}
+use Rattle.day.specs.Day.{unlimited}
+use Rattle.day.proofs.Plays.{plays}
 
 -- ---- a token is used where a used record has it
 
@@ -117,12 +118,5 @@ module _ (w : World) (s token : List ℕ) where
 
 pub used-for-good : (ss : List (List ℕ)) (t token : List ℕ) → sound t ≡ true → isUsed (orderNamed t token) ≡ true
     → isUsed (orderNamed (unlimited t ss .table) token) ≡ true
-unfolding unlimited
-used-for-good [] t token ok u = u
-used-for-good (s ∷ ss) t token ok u = by-done (isDone (comesTo t s .answer)) refl (used-for-good ss)
-  where
-    by-done : (b : Bool) → isDone (comesTo t s .answer) ≡ b
-        → ((t′ token : List ℕ) → sound t′ ≡ true → isUsed (orderNamed t′ token) ≡ true → isUsed (orderNamed (unlimited t′ ss .table) token) ≡ true)
-        → isUsed (orderNamed (playOn t s (comesTo t s) b (λ t′. unlimited t′ ss) .table) token) ≡ true
-    by-done true done rest = rest (tableAfter t s (comesTo t s .plan)) token (keeps t s ok done) (stays-used t s ok done token u)
-    by-done false e rest = rest t token ok u
+used-for-good ss t token ok u =
+    plays (λ t′ past. isUsed (orderNamed t′ token) ≡ true) (λ t′ s past good done v. stays-used t′ s good done token v) ss t [] ok u

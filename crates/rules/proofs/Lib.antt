@@ -4,5 +4,4 @@ pub mod Moments
 pub mod Shapes
 pub mod Keeps
 pub mod Spelled
-pub mod Legal
 pub mod Told

@@ -12,6 +12,7 @@ use Rattle.wire.specs.Legal.{Obeys}
 use Rattle.wire.specs.Limits.{tokenSize, stampEnd}
 use Rattle.wire.specs.Messages.{message as wireMessage}
 use Rattle.wire.proofs.Layouts.{Sized, length-spelled}
+use Rattle.wire.proofs.Sendable.{Obeying, spelled-legal}
 use Rattle.table.specs.Counts.{Within, newCounts}
 use Rattle.table.specs.Order.{orderOf, noOrder, rejectedOrder, isLive}
 use Rattle.outbound.specs.Outbound.{systemEventBytes, acceptedBytes, replacedBytes, canceledBytes, aiqCancelledBytes, executedBytes, rejectedBytes, cancelPendingBytes, cancelRejectBytes, priorityUpdateBytes, modifiedBytes}
@@ -19,7 +20,6 @@ use Rattle.rules.specs.Limits.{longestMessage}
 use Rattle.rules.specs.Types.{Order, Plan, Decision, Notice, Accepted, AiqCancelled, CancelPending, CancelReject, Canceled, Executed, Modified, PriorityUpdate, Rejected, Replaced, Silent, SystemEvent}
 use Rattle.rules.specs.Sane.{Shaped, Standing, stillLive, nowDead, Change, unchanged, changed, Addition, nothing, rejected, entered, replacing, OfNobody, OfNamed, Shape, nobody, changes, accepts, rejects, replaces, Keeps}
 use Rattle.rules.specs.Sent.{acceptedNotice, replacedNotice, canceledNotice, selfMatchNotice, executedNotice, rejectedNotice, priorityNotice, modifiedNotice, noticeBytes, message, AtMostOne, silent, told}
-use Rattle.rules.proofs.Legal.{Obeying, spelled-legal}
 use Rattle.rules.proofs.Shapes.{change-of, addition-of}
 
 -- one of the twelve, with texts of their widths and values that are legal

@@ -16,9 +16,10 @@ use Rattle.octets.proofs.Laws.{take-zeros, drop-zeros, take-past, part-front}
 use Rattle.octets.proofs.Below.{both, every-at, in-row, all-same, all-each}
 use Rattle.table.specs.Limits.{headerSize, firmSize, fewestFirms, mostFirms, lowestThreshold, highestThreshold}
 use Rattle.table.specs.Header.{Header, headerBytes, firmAt, firmsShaped, restBlank}
-use Rattle.table.specs.Table.{recordsIn, sizeGood, sound, storeHeader}
+use Rattle.table.specs.Table.{recordsIn, sizeGood, header, sound, storeHeader}
 use Rattle.table.specs.Whole.{WholeHeader}
 use Rattle.table.proofs.Spelled.{length-header}
+use Rattle.table.proofs.Stored.{header-read-back}
 use Rattle.table.proofs.Soundness.{Sized, of-size, HeaderGood}
 use Rattle.table.proofs.Keeps.{same-size, header-keeps}
 use Rattle.wire.specs.Text.{shaped}
@@ -206,3 +207,13 @@ module _ (t : List ℕ) (s : Settings) where
       let h = fresh-header-good long (good .1) (recordsIn (zeros (length t))) in
       ap sound (sym (fresh-done t s (good .0) (good .1) (omega (arith, size .long)) .1))
       ∙ header-keeps (freshHeader s) (fresh-whole s (good .1)) (zeros (length t)) blank h (λ j l. absurd (omega arith))
+
+  -- and no record is used
+  pub fresh-unused : freshAnswer t s ≡ Done → header (freshTable t s) .used ≡ 0
+  unfolding freshHeader
+  fresh-unused e =
+      let good = done-means e in
+      let fits : headerSize ≤ length t = omega (arith, of-size t (good .0) .long) in
+      ap (λ (u : List ℕ). header u .used) (sym (fresh-done t s (good .0) (good .1) fits .1))
+      ∙ ap (λ (h : Header). h .used)
+      (header-read-back (zeros (length t)) (freshHeader s) (omega (arith, length-replicate {A = ℕ} (length t) 0)) (fresh-whole s (good .1)))

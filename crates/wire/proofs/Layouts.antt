@@ -12,15 +12,12 @@ use lib.Seq.{take-all, take-at, drop-at, drop-drop, drop-cons}
 use borrow.Author.Tests.{eqb-true}
 use Rattle.octets.specs.Bytes.{part, numberOf, digits, zeros}
 use Rattle.octets.proofs.Laws.{number-digits, length-digits, digits-number, length-part, part-bytes}
+use Rattle.octets.proofs.Below.{both}
 use Rattle.octets.specs.Choice.{pick}
 use Rattle.wire.specs.Layout.{Form, number, bytes, gap, Rule, free, below, between, oneOf, legalToken, allZero, Field, Value, Values, FitsField, Fits, readValue, spellValue, readFields, spellFields, nonZeroByte, badPlace, orElse, firstBadPlace, Layout, spell, unbroken, wellLaid, gapIsZero, gapsAreZero}
 use Rattle.wire.specs.Legal.{Bytes}
 
 -- ---- what the computed conditions say
-
-pub both : (x y : Bool) → (x && y) ≡ true → (x ≡ true) × (y ≡ true)
-both true y e = (refl, e)
-both false y e = let z : _≡_ {A = ℕ} 0 1 = cc in absurd (omega arith)
 
 module _ (f : Field) (fs : List Field) (at size : ℕ) (h : unbroken at size (f ∷ fs) ≡ true) where
   pub first-at : f .at ≡ at
@@ -111,7 +108,7 @@ length-fields (f ∷ fs) v at size h s =
     let r : List ℕ = spellFields fs (v .1) in
     omega (arith, length-append b r, length-value (f .form) (f .width) (v .0) (s .0), length-fields fs (v .1) (at + f .width) size (rest-unbroken f fs at size h) (s .1))
 
-part-there : (p b q : List ℕ) (at width : ℕ) → length p ≡ at → length b ≡ width → part (p ++ (b ++ q)) at width ≡ b
+pub part-there : (p b q : List ℕ) (at width : ℕ) → length p ≡ at → length b ≡ width → part (p ++ (b ++ q)) at width ≡ b
 part-there p b q at width ep eb = ap (take width) (drop-at p (b ++ q) at ep) ∙ take-at b q width eb
 
 pub fields-again : (fs : List Field) (v : Values fs) (at size : ℕ) (p : List ℕ) → unbroken at size fs ≡ true → Fits fs v → length p ≡ at

@@ -10,3 +10,4 @@ pub mod BadPlaces
 pub mod Exactly
 pub mod Runs
 pub mod RoundTrips
+pub mod Sendable

@@ -15,6 +15,7 @@ use lib.Dec.{eqb, leb, ltb}
 use lib.ListN.{take, drop, getD, length-take, drop-of-length-le}
 use lib.Seq.{drop-cons, getD-take}
 use borrow.Author.Tests.{eqb-true, leb-true, le-ltb}
+use Rattle.octets.proofs.Below.{all-at}
 use Rattle.octets.specs.Bytes.{part}
 use Rattle.octets.specs.Choice.{pick, allBelow}
 use Rattle.wire.specs.Letters.{sides, sweeps}
@@ -42,15 +43,8 @@ Tests : (ℕ → Bool) → ℕ → Type 0
 Tests p n = (k : ℕ) → k < n → p k ≡ true
 
 tested : (p : ℕ → Bool) (n : ℕ) → allBelow n p ≡ true → Tests p n
-unfolding allBelow Tests
-tested p zero t k h = absurd (not-suc-le-zero h)
-tested p (suc n) t k h =
-    let b = both (allBelow n p) (p n) t in
-    pick-last (λ (i : ℕ). p i ≡ true) n k (b .1) (tested p n (b .0) k) h (ℕ-discrete n k)
-  where
-    both : (x y : Bool) → (x && y) ≡ true → (x ≡ true) × (y ≡ true)
-    both true y e = (refl, e)
-    both false y e = let z : _≡_ {A = ℕ} 0 1 = cc in absurd (omega arith)
+unfolding Tests
+tested p n t k h = all-at p n k t h
 
 -- ---- the tables
 

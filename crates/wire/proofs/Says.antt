@@ -9,10 +9,10 @@ use native.Mathlib.Omega.{arith}
 use lib.Dec.{eqb, leb, ltb}
 use borrow.Author.Tests.{eqb-true, leb-true, ltb-true, eq-eqb, le-leb, lt-ltb}
 use Rattle.octets.specs.Choice.{among}
+use Rattle.octets.proofs.Below.{both}
 use Rattle.wire.specs.Letters.{space}
 use Rattle.wire.specs.Text.{tokenByte, capital, small, digit}
 use Rattle.wire.specs.Legal.{LetterDigitOrSpace, OneOf}
-use Rattle.wire.proofs.Layouts.{both}
 
 pub record Says (t : Bool) (P : Type 0) : Type 0 where
   pub so : t ≡ true → P

@@ -4,18 +4,14 @@ use mathlib.Core.Bool.{true}
 use mathlib.Core.Logic.{⊎-elim}
 use mathlib.Core.List.{List, [], _∷_, _++_, append-assoc, List·Memᴰ·cases-cons, List·Memᴰ·not-nil}
 use Prim.Native.Nat.{ℕ, _+_}
-use lib.ListN.{length, take, length-append}
-use lib.Seq.{take-at, drop-at}
+use lib.ListN.{length, length-append}
 use Rattle.octets.specs.Bytes.{part}
 use Rattle.answers.specs.declared.Answer.the-variants.{Done}
 use Rattle.wire.specs.Layout.{Field, Values, spellValue, spellFields, Layout, spell, unbroken, wellLaid}
 use Rattle.wire.specs.Legal.{Obeys, AllObey}
 use Rattle.wire.specs.Messages.{readAnswer}
-use Rattle.wire.proofs.Layouts.{Sized, length-value, length-spelled, first-at, rest-unbroken}
+use Rattle.wire.proofs.Layouts.{part-there, Sized, length-value, length-spelled, first-at, rest-unbroken}
 use Rattle.wire.proofs.Exactly.{done-exactly}
-
-part-there : (p b q : List ℕ) (at width : ℕ) → length p ≡ at → length b ≡ width → part (p ++ (b ++ q)) at width ≡ b
-part-there p b q at width ep eb = ap (take width) (drop-at p (b ++ q) at ep) ∙ take-at b q width eb
 
 abbrev pub Obeying : (fs : List Field) → Values fs → Type 0
 Obeying [] v = Unit {0}
