@@ -1,11 +1,11 @@
 -- No chain ever executes above 999,999 shares: from a fresh table on, whatever is played, what the messages tell as executed along a chain of
 -- replacements is at most what the chain's last order has executed. Assumes nothing.
-use mathlib.Core.Path.{_≡_, refl, sym, ap, ap₂, _∙_, subst}
+use mathlib.Core.Path.{_≡_, refl, sym, ap, _∙_, subst}
 use mathlib.Core.Bool.{Bool, true, false, false≢true}
-use mathlib.Core.Logic.{_⊎_, inl, inr, _≢_}
-use mathlib.Core.List.{List, [], _∷_, _++_, append-assoc, append-nil}
+use mathlib.Core.Logic.{_≢_}
+use mathlib.Core.List.{List, [], _∷_, _++_}
 use Prim.Native.Nat.{ℕ, zero, suc, _+_, _^_, _≤_, _<_}
-use native.Mathlib.Decide.{decLt, ℕ-discrete}
+use native.Mathlib.Decide.{decLt}
 use native.Mathlib.Omega.{arith}
 use lib.ListN.{length}
 use Rattle.octets.specs.Choice.{pick, allBelow}
@@ -17,43 +17,43 @@ use Rattle.wire.specs.Limits.{tokenSize}
 use Rattle.wire.specs.Text.{tokenByte, capital, small, digit}
 use Rattle.table.specs.Limits.{mostShares}
 use Rattle.table.specs.Counts.{newCounts}
-use Rattle.table.specs.Order.{isUsed, isLive, noOrder, rejectedOrder, orderOf}
+use Rattle.table.specs.Order.{isUsed, noOrder, rejectedOrder, orderOf}
 use Rattle.table.specs.Table.{header, orderAt, placeOf, orderNamed, sound}
 use Rattle.table.specs.declared.order.Order.{Order}
 use Rattle.table.proofs.Judged.{legalToken as judgedToken}
-use Rattle.table.proofs.Soundness.{Sound, of-sound}
+use Rattle.table.proofs.Soundness.{Sound}
 use Rattle.table.proofs.Finding.{found}
 use Rattle.tape.specs.Entries.{stampOf, tokenOf}
 use Rattle.rules.specs.declared.plan.Decision.{Decision}
 use Rattle.rules.specs.declared.plan.Notice.{Notice}
 use Rattle.rules.specs.declared.plan.Notice.the-variants.{Accepted, AiqCancelled, CancelPending, CancelReject, Canceled, Executed, Modified, PriorityUpdate, Rejected, Replaced, Silent, SystemEvent}
 use Rattle.rules.specs.declared.plan.Plan.{Plan}
-use Rattle.rules.specs.Sane.{Shaped, Changed, Born, toldExecuted, OfNobody, Shape, nobody, changes, accepts, rejects, replaces}
-use Rattle.rules.specs.Sent.{message, noticeBytes}
+use Rattle.rules.specs.Sane.{Changed, Born, toldExecuted, ofNone, subject, Shape, nobody, changes, accepts, rejects, replaces}
+use Rattle.rules.specs.Sent.{message}
 use Rattle.rules.proofs.Standing.{live-state, executed-most}
 use Rattle.host.specs.Step.{oneIf, comesTo, tableAfter}
 use Rattle.host.proofs.Given.{named-is, named-used, shaped-none}
-use Rattle.host.proofs.Sounds.{S, P, K, keeps, p, place, named, one, none-unused}
+use Rattle.host.proofs.Sounds.{S, P, K, p, place, named, one, none-unused}
 use Rattle.host.proofs.Records.{Face, face, faceAt, left, left-used, changed-face, unchanged-face, unchanged-faces, added-face, earlier-face}
 use Rattle.day.specs.Day.{telling, unlimited}
 use Rattle.day.specs.Chain.{executedIn, chain, executedAlong}
 use Rattle.day.proofs.Plays.{plays}
 use Rattle.day.proofs.Ledger.{Carries, fromNothing, fromBefore, Balanced, still, moved, grown}
-use Rattle.day.proofs.Tokens.{named-none, has-used, used-has, standing-used, tokens-stay, left-is}
+use Rattle.day.proofs.Tokens.{named-none, has-used, used-has, standing-used, tokens-stay}
 use Rattle.day.proofs.Telling.{tells, executed-append, executed-telling}
 
 -- the ledger of a table, of the messages told so far
 abbrev pub Books : List ℕ → List (List ℕ) → Type 0
 Books t past = Balanced (header t .used) (faceAt t) (λ token. executedIn token past)
 
-nobody-tells : (notice : Notice) → OfNobody notice → toldExecuted notice ≡ 0
+nobody-tells : (notice : Notice) → subject notice ≡ ofNone → toldExecuted notice ≡ 0
 nobody-tells Silent of = refl
 nobody-tells (SystemEvent event) of = refl
 nobody-tells Accepted of = refl
 nobody-tells Replaced of = refl
 nobody-tells (Canceled decrement reason) of = refl
 nobody-tells (AiqCancelled e) of = refl
-nobody-tells (Executed e) of = absurd of
+nobody-tells (Executed e) of = let z : _≡_ {A = ℕ} 0 1 = cc in absurd (omega arith)
 nobody-tells (Rejected reason) of = refl
 nobody-tells CancelPending of = refl
 nobody-tells CancelReject of = refl

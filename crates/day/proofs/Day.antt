@@ -26,7 +26,6 @@ use Rattle.answers.specs.declared.Answer.{Answer}
 use Rattle.answers.specs.declared.Answer.the-variants.{Blocked, Done}
 use Rattle.rules.specs.declared.plan.Decision.{Decision}
 use Rattle.rules.specs.declared.plan.Plan.{Plan}
-use Rattle.outbox.specs.declared.marks.Marks.{Marks}
 use Rattle.host.specs.Step.{World, Outcome, comesTo, noRoom, settle, offer, step, tableAfter, worldAfter, unchanged}
 use Rattle.day.specs.Day.{Played, telling, playOn, unlimited, Action, offerNext, look, release, Ran, isBlocked, withMarks, givenUp, offered, run}
 

@@ -1,6 +1,6 @@
 -- A ledger balances when every order has executed what the messages told under its own token and what the order before it had executed. It
 -- is kept by each thing that an entry can do to the records: nothing, a change of a live order, a new one. Assumes nothing.
-use mathlib.Core.Path.{_≡_, refl, sym, ap, _∙_, subst}
+use mathlib.Core.Path.{_≡_, sym, ap, _∙_, subst}
 use mathlib.Core.Logic.{_≢_}
 use mathlib.Core.List.{List}
 use Prim.Native.Nat.{ℕ, _+_, _≤_, _<_}

@@ -1,7 +1,7 @@
 -- An entry offered to an empty outbox is never blocked, and so a driver that empties the outbox after each block gets through any list.
 -- Assumes nothing.
 use mathlib.Core.Path.{_≡_, refl, sym, ap, ap₂, _∙_, subst}
-use mathlib.Core.Bool.{Bool, true, false, not, false≢true}
+use mathlib.Core.Bool.{Bool, true, false, false≢true}
 use mathlib.Core.List.{List, [], _∷_}
 use Prim.Native.Nat.{ℕ, _-_, _≤_, _<_}
 use native.Mathlib.Nat.{le-refl, sub-self}
@@ -11,21 +11,16 @@ use lib.Dec.{eqb}
 use lib.ListN.{length}
 use Rattle.octets.specs.Choice.{pick}
 use Rattle.answers.specs.Answer.{answerNumber, isDone}
-use Rattle.answers.proofs.Laws.{is-done}
-use Rattle.table.specs.Table.{sound}
 use Rattle.tape.specs.Entries.{stampOf}
 use Rattle.rules.specs.Sent.{message}
-use Rattle.outbox.specs.Limits.{shortestRing}
-use Rattle.outbox.specs.Outbox.{ringGood, freeBytes, releaseMarks, marksWithout}
+use Rattle.outbox.specs.Outbox.{freeBytes, marksWithout}
 use Rattle.outbox.proofs.Right.{right}
 use Rattle.outbox.proofs.Board.{held-is-enough, release-keeps-good}
 use Rattle.outbox.proofs.Guards.{release-marks-done}
-use Rattle.answers.specs.declared.Answer.{Answer}
-use Rattle.answers.specs.declared.Answer.the-variants.{Blocked, Done}
-use Rattle.rules.specs.declared.plan.Decision.{Decision}
+use Rattle.answers.specs.declared.Answer.the-variants.{Blocked}
 use Rattle.outbox.specs.declared.marks.Marks.{Marks}
-use Rattle.host.specs.Step.{World, Outcome, comesTo, noRoom, step, tableAfter, worldAfter}
-use Rattle.day.specs.Day.{Action, offerNext, release, isBlocked, withMarks, run, offered, emptied, patient}
+use Rattle.host.specs.Step.{World, Outcome, noRoom, step, worldAfter}
+use Rattle.day.specs.Day.{offerNext, release, isBlocked, run, emptied, patient}
 use Rattle.host.proofs.Steps.{stepBy, step-by, comes, only-done-changes}
 use Rattle.day.proofs.Day.{Ready, ring-after}
 use Rattle.host.proofs.Sounds.{keeps}

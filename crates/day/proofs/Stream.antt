@@ -6,20 +6,18 @@ use mathlib.Core.List.{List, [], _∷_, _++_}
 use Prim.Native.Nat.{ℕ, zero, suc, _+_, _≤_, _<_}
 use native.Mathlib.Omega.{arith}
 use lib.Dec.{eqb, ltb}
-use lib.ListN.{length, take, drop, getD, length-append}
+use lib.ListN.{length, getD, length-append}
 use lib.Seq.{take-at, drop-at}
 use borrow.Author.Tests.{eqb-true, ltb-true, le-ltb}
-use Rattle.octets.specs.Choice.{pick, allBelow}
+use Rattle.octets.specs.Choice.{allBelow}
 use Rattle.octets.specs.Bytes.{joined}
 use Rattle.octets.proofs.Below.{all-at, both}
-use Rattle.answers.specs.Answer.{isDone}
 use Rattle.wire.specs.Layout.{layoutFor}
 use Rattle.wire.specs.Messages.{message as wireMessage, lengthFor, messageLength}
 use Rattle.wire.proofs.Exactly.{done-exactly}
 use Rattle.table.specs.Table.{sound}
 use Rattle.tape.specs.Entries.{stampOf}
 use Rattle.rules.specs.Sent.{message, OneOfTwelve, AtMostOne, silent, told}
-use Rattle.rules.specs.declared.plan.Decision.{Decision}
 use Rattle.host.specs.Step.{World, comesTo}
 use Rattle.day.specs.Day.{telling, unlimited, Action, run, cutInto, messagesIn, AllOfTwelve}
 use Rattle.host.proofs.Sent.{sends}

@@ -3,7 +3,7 @@ use mathlib.Core.Path.{_≡_, refl, sym, ap, _∙_, subst}
 use mathlib.Core.Bool.{Bool, true, false, false≢true}
 use mathlib.Core.Logic.{_⊎_, inl, inr}
 use mathlib.Core.List.{List, []}
-use Prim.Native.Nat.{ℕ, _+_, _≤_, _<_}
+use Prim.Native.Nat.{ℕ, _≤_, _<_}
 use native.Mathlib.Decide.{decLt, ℕ-discrete}
 use native.Mathlib.Omega.{arith}
 use borrow.Author.Tests.{ltb-true, le-ltb}
@@ -11,11 +11,10 @@ use lib.Dec.{ltb}
 use lib.ListN.{length}
 use Rattle.octets.specs.Choice.{pick}
 use Rattle.answers.specs.Answer.{isDone}
-use Rattle.wire.specs.Letters.{live, dead, rejectedToken}
 use Rattle.table.specs.Order.{isUsed, noOrder}
 use Rattle.table.specs.Table.{header, orderAt, placeOf, orderFrom, orderNamed, recordBytes, sound}
 use Rattle.table.specs.declared.order.Order.{Order}
-use Rattle.table.proofs.Soundness.{Sound, RecordGood, Live, Dead, Rejected, of-sound}
+use Rattle.table.proofs.Soundness.{Sound, Live, Dead, Rejected, of-sound}
 use Rattle.table.proofs.Finding.{found, not-found}
 use Rattle.tape.specs.Entries.{tokenOf}
 use Rattle.rules.specs.declared.plan.Decision.{Decision}
@@ -25,7 +24,7 @@ use Rattle.outbox.specs.Outbox.{ringGood}
 use Rattle.host.specs.Step.{World, Outcome, comesTo, noRoom, tableAfter, worldAfter, step}
 use Rattle.host.proofs.Given.{named-is, named-used}
 use Rattle.host.proofs.Sounds.{P, K, keeps, p, place, named, one, none-unused}
-use Rattle.host.proofs.Records.{Face, faceAt, left, left-used, changed-face, unchanged-face, unchanged-faces, earlier-face}
+use Rattle.host.proofs.Records.{Face, left, left-used, changed-face, unchanged-face, unchanged-faces, earlier-face}
 use Rattle.host.proofs.Steps.{stepBy, step-by, comes}
 use Rattle.day.specs.Day.{unlimited}
 use Rattle.day.proofs.Plays.{plays}

@@ -1,6 +1,6 @@
 -- No rule answers 'blocked': that is asked of the ring alone, which the rules never see. Assumes nothing.
 use mathlib.Core.Path.{_≡_, refl}
-use mathlib.Core.Bool.{Bool, true, false, not, _&&_, _||_}
+use mathlib.Core.Bool.{false, not, _&&_, _||_}
 use mathlib.Core.List.{List}
 use Prim.Native.Nat.{ℕ}
 use lib.Dec.{eqb, ltb}
@@ -13,7 +13,7 @@ use Rattle.table.specs.Header.{isOpenDay}
 use Rattle.table.specs.Order.{isLive, isUsed, isLate, isPending, rejectSent}
 use Rattle.table.specs.Table.{header, orderNamed}
 use Rattle.tape.specs.Entries.{wellFormed, allLegal, _isAn_, enterEntry, replaceEntry, cancelEntry, modifyEntry, executionEntry, bookCancelEntry, selfMatchEntry, priorityEntry, lateEntry, crossDoneEntry, systemEntry, stampOf, tokenOf, enterOf, replaceOf, cancelOf, modifyOf, executionOf, bookCancelOf, selfMatchOf, priorityOf, systemOf}
-use Rattle.rules.specs.Plan.{refused, changing, renumbering, accepting, replacing, rejecting, beginning}
+use Rattle.rules.specs.Plan.{changing, renumbering, accepting, replacing, rejecting, beginning}
 use Rattle.rules.specs.Enter.{enterFault, enterOutcome, enterRule}
 use Rattle.rules.specs.Replace.{badDetails, replaceOpen, replaceRule}
 use Rattle.rules.specs.Cancel.{cancelIgnored, lateCancel, cancelRule}

@@ -6,7 +6,6 @@ use mathlib.Core.List.{List, [], _∷_, _++_}
 use lib.ListN.{length, take, drop}
 use lib.Dec.{eqb}
 use Rattle.octets.specs.Choice.{pick}
-use Rattle.octets.specs.Bytes.{joined}
 use Rattle.answers.specs.Answer.{answerNumber, isDone}
 use Rattle.wire.specs.Messages.{messageLength}
 use Rattle.outbox.specs.Outbox.{held, releaseAnswer, releaseMarks}
@@ -14,7 +13,7 @@ use Rattle.rules.specs.Sent.{message, OneOfTwelve}
 use Rattle.tape.specs.Entries.{stampOf}
 use Rattle.host.specs.Step.{World, Outcome, step, comesTo, tableAfter}
 use Rattle.answers.specs.declared.Answer.{Answer}
-use Rattle.answers.specs.declared.Answer.the-variants.{Blocked, Done}
+use Rattle.answers.specs.declared.Answer.the-variants.{Blocked}
 use Rattle.rules.specs.declared.plan.Decision.{Decision}
 use Rattle.outbox.specs.declared.marks.Marks.{Marks}
 

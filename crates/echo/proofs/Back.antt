@@ -1,14 +1,11 @@
 -- What was read is written as it was: the one law that each message's echo cites. Assumes nothing.
 use Prim.Native.Nat.{ℕ}
-use mathlib.Core.Path.{_≡_, refl, sym, ap, _∙_}
+use mathlib.Core.Path.{_≡_, sym, ap, _∙_}
 use mathlib.Core.Bool.{true, false}
 use mathlib.Core.List.{List}
-use lib.Dec.{eqb}
 use borrow.Author.Tests.{eq-eqb, ne-eqb}
-use Rattle.octets.specs.Choice.{pick}
 use Rattle.answers.specs.Answer.{answerNumber, isDone, ifDone}
 use Rattle.answers.specs.declared.Answer.{Answer}
-use Rattle.answers.specs.declared.Answer.the-variants.{Done}
 use Rattle.answers.proofs.Laws.{is-done}
 use Rattle.wire.specs.Layout.{Layout, Values}
 use Rattle.wire.specs.Legal.{Bytes}

@@ -1,22 +1,20 @@
 -- A whole entry ends within the bytes that it was found in, and bytes behind the held ones leave them held. Assumes nothing.
 use Prim.Native.Nat.{ℕ, _+_, _-_, _≤_}
-use mathlib.Core.Path.{_≡_, refl, sym, ap, _∙_}
-use mathlib.Core.Bool.{true, false}
+use mathlib.Core.Path.{_≡_, _∙_}
 use mathlib.Core.List.{List, _++_}
 use native.Mathlib.Nat.{sub-zero}
 use native.Mathlib.Omega.{arith}
 use lib.Dec.{leb, ltb, eqb}
-use lib.ListN.{length, take, drop, getD, length-append}
+use lib.ListN.{length, take, getD, length-append}
 use lib.Seq.{take-take, take-append-seam}
 use borrow.Author.Tests.{le-leb, ltb-false}
-use Rattle.octets.specs.Choice.{pick}
 use Rattle.octets.proofs.Guards.{guard}
 use Rattle.octets.proofs.Laws.{length-part}
 use Rattle.tape.specs.Entries.{entryLength}
 use Rattle.tape.specs.Cutting.{cutAt}
 use Rattle.tape.specs.declared.cutting.Cut.{Cut}
-use Rattle.tape.specs.declared.cutting.Cut.the-variants.{Whole, Short, Unknown, End}
-use Rattle.feed.specs.Feed.{Held, unread, Begins}
+use Rattle.tape.specs.declared.cutting.Cut.the-variants.{Whole}
+use Rattle.feed.specs.Feed.{unread, Begins}
 
 pub whole-within : (s : List ℕ) (end : ℕ) → cutAt s 0 ≡ Whole end → end ≤ length s
 unfolding cutAt

@@ -1,9 +1,8 @@
 -- The worked numbers hold of the rules, and both sides of the paper's sentences: each side computes. Assumes nothing.
-use Prim.Native.Nat.{ℕ}
 use Prim.Native.Char.{code}
 use mathlib.Core.Path.{_≡_, refl}
 use mathlib.Core.Bool.{true}
-use mathlib.Core.List.{List, [], _∷_}
+use mathlib.Core.List.{[], _∷_}
 use Rattle.octets.specs.Choice.{every}
 use Rattle.host.specs.Cases.{allHold, starred, unstarred, replayed}
 use Rattle.host.specs.Edges.{edges, odds}

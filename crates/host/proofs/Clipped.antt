@@ -1,11 +1,10 @@
 -- What bytes keep of an order whatever its numbers are: each number wraps at its width. So an order whose texts have their widths is stored
 -- and judged without a look at the fields that nobody judges. Assumes nothing.
 use mathlib.Core.Path.{_≡_, refl, sym, ap, _∙_, subst}
-use mathlib.Core.Bool.{true}
 use mathlib.Core.Logic.{_⊎_, inl, inr}
 use mathlib.Core.List.{List, [], _∷_, _++_}
 use Prim.Native.Nat.{ℕ, zero, suc, _+_, _-_, _/_, _%_, _^_, _≤_, _<_}
-use native.Mathlib.Nat.{mod-lt, add-sub-of-le}
+use native.Mathlib.Nat.{mod-lt}
 use native.Mathlib.Decide.{decLt}
 use native.Mathlib.Omega.{arith}
 use lib.Dec.{lit<}
@@ -14,15 +13,13 @@ use lib.Seq.{take-all, getD-append-add}
 use Rattle.octets.specs.Bytes.{digits, numberOf, numberFrom, put}
 use Rattle.octets.proofs.Laws.{length-digits, number-digits, digits-number, number-bound}
 use Rattle.wire.specs.Letters.{live, dead}
-use Rattle.wire.specs.Limits.{tokenSize}
 use Rattle.wire.specs.Shares.{total}
 use Rattle.table.specs.Limits.{mostShares}
 use Rattle.table.specs.Counts.{gone, newCounts}
 use Rattle.table.specs.declared.order.Counts.{Counts}
 use Rattle.table.specs.Order.{orderOf, orderBytes, noOrder, rejectedOrder}
-use Rattle.table.specs.Table.{HasRecord, recordPlace, recordBytes, sound, storeOrder}
+use Rattle.table.specs.Table.{recordPlace, storeOrder}
 use Rattle.table.specs.Whole.{WholeOrder}
-use Rattle.table.specs.Order.{recordSound}
 use Rattle.table.proofs.Soundness.{Live, Dead}
 use Rattle.table.proofs.Keeps.{OrderGood}
 use Rattle.rules.specs.Sane.{Shaped}

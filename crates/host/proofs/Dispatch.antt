@@ -1,10 +1,8 @@
 -- Which rule an entry's kind comes to: each kind's guard is the one that the definition takes. Assumes nothing.
 use Prim.Native.Nat.{ℕ}
-use mathlib.Core.Path.{_≡_, refl, sym, ap, _∙_}
-use mathlib.Core.Bool.{true, false}
+use mathlib.Core.Path.{_≡_, sym, ap, _∙_}
 use mathlib.Core.List.{List}
 use native.Mathlib.Decide.{ℕ-discrete}
-use native.Mathlib.Omega.{arith}
 use borrow.Author.Tests.{ne-eqb}
 use Rattle.table.specs.Table.{header, orderNamed}
 use Rattle.tape.specs.Entries.{kindOf, tokenOf, enterOf, replaceOf, cancelOf, modifyOf, executionOf, bookCancelOf, selfMatchOf, priorityOf, systemOf, enterEntry, replaceEntry, cancelEntry, modifyEntry, executionEntry, bookCancelEntry, selfMatchEntry, priorityEntry, lateEntry, crossDoneEntry, systemEntry}
@@ -17,7 +15,7 @@ use Rattle.market.specs.Taken.{executionRule, bookCancelRule, selfMatchRule}
 use Rattle.market.specs.Priority.{priorityRule}
 use Rattle.market.specs.Cross.{lateRule, crossDoneRule}
 use Rattle.market.specs.Day.{systemRule}
-use Rattle.host.specs.Types.{Decision, Order, Header, Malformed}
+use Rattle.host.specs.Types.{Order, Header, Malformed}
 use Rattle.host.specs.Step.{decide, decideMarket, Names}
 
 module _ (h : Header) (o : Order) (s : List ℕ) where

@@ -1,29 +1,27 @@
 -- What a sound table and a well-formed entry give the rules: orders whose counts are in order, texts of their widths, a header that holds.
 -- Assumes nothing.
-use mathlib.Core.Path.{_≡_, refl, sym, ap, _∙_, subst}
+use mathlib.Core.Path.{_≡_, refl, sym, ap, _∙_}
 use mathlib.Core.Bool.{Bool, true, false}
 use mathlib.Core.Logic.{_⊎_, inl, inr}
 use mathlib.Core.List.{List}
-use Prim.Native.Nat.{ℕ, _+_, _*_, _≤_, _<_}
+use Prim.Native.Nat.{ℕ, _+_, _*_, _<_}
 use native.Mathlib.Omega.{arith}
 use borrow.Author.Tests.{ltb-true, lt-ltb, eqb-true}
 use lib.Dec.{ltb}
-use lib.ListN.{length, take, drop, length-take, length-drop}
-use lib.Seq.{drop-drop}
+use lib.ListN.{length, take, length-take}
 use Rattle.octets.specs.Choice.{pick}
-use Rattle.octets.specs.Bytes.{part, zeros, numberOf, numberFrom}
+use Rattle.octets.specs.Bytes.{zeros, numberOf, numberFrom}
 use Rattle.octets.proofs.Laws.{length-part}
-use Rattle.wire.specs.Limits.{tokenSize}
 use Rattle.wire.specs.Letters.{live, dead, rejectedToken}
-use Rattle.table.specs.Limits.{headerSize, recordSize, mostRecords, endOfReferences}
-use Rattle.table.specs.Counts.{gone, Within, newCounts}
-use Rattle.table.specs.Order.{orderOf, noOrder, isLive, isUsed}
+use Rattle.table.specs.Limits.{headerSize, recordSize}
+use Rattle.table.specs.Counts.{gone}
+use Rattle.table.specs.Order.{orderOf, noOrder, isLive}
 use Rattle.table.specs.Header.{headerOf}
-use Rattle.table.specs.Table.{HasUsed, HasRecord, recordBytes, recordPlace, recordsIn, header, orderAt, placeOf, orderFrom, orderNamed, sound}
-use Rattle.table.proofs.Soundness.{Sound, of-sound, sound-fit, RecordGood, Live, Dead, Rejected}
-use Rattle.table.proofs.Finding.{FirstWith, found, place-within}
+use Rattle.table.specs.Table.{HasUsed, HasRecord, recordBytes, recordPlace, header, orderAt, placeOf, orderFrom, orderNamed}
+use Rattle.table.proofs.Soundness.{Sound, sound-fit, RecordGood, Live, Dead, Rejected}
+use Rattle.table.proofs.Finding.{found}
 use Rattle.rules.specs.Sane.{Open, Sane, Shaped, HeaderHolds}
-use Rattle.host.specs.Types.{Order, Header}
+use Rattle.host.specs.Types.{Order}
 
 -- ---- orders
 

@@ -1,28 +1,25 @@
 -- Which records a done entry leaves: the changed order in its own, the added one behind the used ones, and every other as it was. Seen are
 -- the four things of an order by which chains are followed; they fit their widths, so storing wraps none of them. Assumes nothing.
-use mathlib.Core.Path.{_≡_, refl, sym, ap, _∙_, subst}
+use mathlib.Core.Path.{_≡_, refl, sym, ap, _∙_}
 use mathlib.Core.Bool.{Bool, true, false}
 use mathlib.Core.Logic.{_⊎_, inl, inr, _≢_}
 use mathlib.Core.List.{List}
 use Prim.Native.Nat.{ℕ, _+_, _≤_, _<_}
-use native.Mathlib.Decide.{ℕ-discrete}
 use native.Mathlib.Omega.{arith}
-use lib.Dec.{lit<}
 use lib.ListN.{length}
 use Rattle.answers.specs.Answer.{isDone}
-use Rattle.wire.specs.Letters.{live, dead, rejectedToken}
+use Rattle.wire.specs.Letters.{rejectedToken}
 use Rattle.table.specs.Limits.{headerSize, mostShares}
 use Rattle.table.specs.Counts.{gone, newCounts}
-use Rattle.table.specs.Order.{noOrder, rejectedOrder, isUsed}
-use Rattle.table.specs.Table.{HasRecord, header, orderAt, sound, storeOrder, storeHeader}
+use Rattle.table.specs.Order.{rejectedOrder, isUsed}
+use Rattle.table.specs.Table.{HasRecord, header, orderAt, sound, storeOrder}
 use Rattle.table.proofs.Soundness.{Live, Dead}
 use Rattle.table.proofs.Keeps.{OrderGood}
 use Rattle.table.proofs.Stored.{order-read-back, other-orders, header-read-back, orders-stay}
-use Rattle.tape.specs.Entries.{stampOf}
 use Rattle.host.specs.Types.{Plan, Order, Header}
 use Rattle.host.specs.Step.{oneIf, storeIf, headerAfter, written, tableAfter, comesTo}
-use Rattle.host.proofs.Clipped.{clip, clip-same, clipped, clippedCounts, stored-clipped, whole-clipped}
-use Rattle.host.proofs.Sounds.{Fit, S, P, p, place, h, one, two, kept₁, kept₂, after, whole, changed-fit, added-fit, free-there, K}
+use Rattle.host.proofs.Clipped.{clip-same, clipped, clippedCounts, stored-clipped, whole-clipped}
+use Rattle.host.proofs.Sounds.{Fit, S, p, place, one, two, kept₁, kept₂, after, whole, changed-fit, added-fit, free-there, K}
 use Rattle.rules.proofs.Shapes.{change-of, addition-of}
 
 -- what a chain is followed by

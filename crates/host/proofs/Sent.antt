@@ -8,7 +8,6 @@ use native.Mathlib.Omega.{arith}
 use Rattle.octets.proofs.Below.{all-at}
 use Rattle.answers.specs.Answer.{isDone}
 use Rattle.wire.specs.Limits.{tokenSize}
-use Rattle.wire.specs.Layout.{legalToken}
 use Rattle.wire.specs.Legal.{Obeys}
 use Rattle.wire.specs.Text.{tokenByte}
 use Rattle.wire.proofs.Says.{says-token}

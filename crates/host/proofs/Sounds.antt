@@ -1,35 +1,33 @@
 -- A step that is done keeps a sound table sound: the named order's record, the record behind the used ones, and the header are each written
 -- with something good, and nothing else is touched. Assumes nothing.
-use mathlib.Core.Path.{_≡_, refl, sym, ap, ap₂, _∙_, subst}
-use mathlib.Core.Bool.{Bool, true, false, not, _&&_, false≢true}
-use mathlib.Core.Logic.{_⊎_, inl, inr, _≢_}
+use mathlib.Core.Path.{_≡_, refl, sym, ap, _∙_, subst}
+use mathlib.Core.Bool.{Bool, true, false, _&&_, false≢true}
+use mathlib.Core.Logic.{inl, inr, _≢_}
 use mathlib.Core.List.{List}
-use Prim.Native.Nat.{ℕ, _+_, _*_, _^_, _≤_, _<_}
+use Prim.Native.Nat.{ℕ, _+_, _≤_, _<_}
 use native.Mathlib.Omega.{arith}
-use borrow.Author.Tests.{leb-true, leb-false, eqb-true, eqb-false}
+use borrow.Author.Tests.{leb-false, eqb-false}
 use lib.Dec.{eqb, leb, ltb}
 use lib.ListN.{length}
 use Rattle.octets.specs.Choice.{pick}
 use Rattle.octets.specs.Bytes.{numberOf, numberFrom}
 use Rattle.answers.specs.Answer.{isDone}
-use Rattle.wire.specs.Letters.{live, dead, rejectedToken}
-use Rattle.wire.specs.Limits.{tokenSize, stampEnd}
-use Rattle.table.specs.Limits.{headerSize, recordSize, mostRecords, endOfReferences, dayClosed}
+use Rattle.table.specs.Limits.{endOfReferences, dayClosed}
 use Rattle.table.specs.Counts.{gone}
 use Rattle.table.specs.Order.{orderOf, noOrder, rejectedOrder, isUsed, isLive, recordSound}
-use Rattle.table.specs.Table.{HasRecord, HasUsed, recordsIn, recordBytes, header, orderAt, placeOf, orderNamed, sound, storeOrder, storeHeader}
+use Rattle.table.specs.Table.{HasRecord, recordsIn, recordBytes, header, orderAt, placeOf, orderNamed, sound, storeOrder}
 use Rattle.table.specs.Whole.{WholeHeader}
 use Rattle.table.proofs.Judged.{legalToken}
-use Rattle.table.proofs.Soundness.{Sized, HeaderGood, Sound, of-sound, to-sound, to-record, sound-fit}
+use Rattle.table.proofs.Soundness.{HeaderGood, Sound, of-sound, to-record, sound-fit}
 use Rattle.table.proofs.Stored.{order-length, header-stays}
 use Rattle.table.proofs.Keeps.{OrderGood, order-keeps, records-after, same-records, same-size, header-keeps}
 use Rattle.tape.specs.Entries.{wellFormed, allLegal, stampOf, tokenOf}
-use Rattle.rules.specs.Sane.{Open, Spent, Standing, stillLive, nowDead, Shaped, Changed, Change, unchanged, changed, Born, Addition, nothing, rejected, entered, replacing, Keeps, HeaderHolds}
+use Rattle.rules.specs.Sane.{Standing, stillLive, nowDead, Shaped, Change, unchanged, changed, Born, Addition, nothing, rejected, entered, replacing}
 use Rattle.rules.proofs.Shapes.{change-of, addition-of}
 use Rattle.host.specs.Types.{Decision, Plan, Order, Header}
 use Rattle.host.specs.Step.{oneIf, storeIf, headerAfter, written, tableAfter, noRecordFree, noReferenceLeft, decide, comesTo}
 use Rattle.host.proofs.Clipped.{clipped, stored-clipped, whole-clipped, good-clipped}
-use Rattle.host.proofs.Given.{holds, used-there, named-used, named-is, named-token}
+use Rattle.host.proofs.Given.{holds, used-there, named-used, named-is}
 use Rattle.host.proofs.Taken.{Passed, passed, stamp-legal, NewToken, Kept, decide-keeps}
 
 -- ---- one order stored

@@ -1,6 +1,6 @@
 -- What is true of every single step, whatever it is called on: only 'done' changes anything, and a step that is blocked has everything else
 -- well. Assumes nothing.
-use mathlib.Core.Path.{_≡_, refl, sym, ap, _∙_}
+use mathlib.Core.Path.{_≡_, refl, sym}
 use mathlib.Core.Bool.{Bool, true, false, not, false≢true}
 use mathlib.Core.List.{List}
 use Prim.Native.Nat.{ℕ}
@@ -9,7 +9,7 @@ use Rattle.octets.specs.Choice.{_⇒_⨾_}
 use Rattle.answers.specs.Answer.{isDone}
 use Rattle.table.specs.Table.{sound}
 use Rattle.outbox.specs.Outbox.{ringGood}
-use Rattle.host.specs.Types.{Answer, Blocked, Done, NotSound, WrongRing, Decision}
+use Rattle.host.specs.Types.{Blocked, Done, NotSound, WrongRing, Decision}
 use Rattle.host.specs.Step.{World, Outcome, comesTo, noRoom, settle, offer, step, worldAfter, unchanged}
 
 -- a step, by what was judged: table, ring, whether the entry comes to something done, and whether there is no room for its message

@@ -4,7 +4,7 @@ use mathlib.Core.Path.{_≡_, refl, sym, ap, _∙_, subst}
 use mathlib.Core.Bool.{Bool, true, false, not, false≢true}
 use mathlib.Core.List.{List, [], _∷_}
 use mathlib.Core.Option.{Option, none, some}
-use Prim.Native.Nat.{ℕ, _+_, _≤_, _<_}
+use Prim.Native.Nat.{ℕ, _+_, _<_}
 use native.Mathlib.Omega.{arith}
 use borrow.Author.Tests.{eqb-true, ltb-true}
 use lib.Dec.{ltb, eqb}
@@ -18,11 +18,9 @@ use Rattle.answers.specs.Answer.{isDone}
 use Rattle.wire.specs.Limits.{tokenSize, stampEnd}
 use Rattle.wire.specs.Letters.{space, sides, sweeps}
 use Rattle.wire.specs.Text.{tokenByte, capital, small, digit}
-use Rattle.table.specs.Table.{header, orderNamed, orderAt, orderFrom, placeOf, sound}
-use Rattle.table.specs.Order.{isLive, noOrder}
+use Rattle.table.specs.Table.{header, orderNamed}
 use Rattle.table.proofs.Judged.{legalToken, token-bytes}
-use Rattle.table.proofs.Soundness.{Sound, of-sound, sound-fit}
-use Rattle.table.proofs.Finding.{found}
+use Rattle.table.proofs.Soundness.{Sound}
 use Rattle.tape.specs.Entries.{kinds, kindOf, lengthIs, wellFormed, firstBadIn, badPlaceOf, allLegal, _isAn_, enterEntry, replaceEntry, cancelEntry, modifyEntry, executionEntry, bookCancelEntry, selfMatchEntry, priorityEntry, lateEntry, crossDoneEntry, systemEntry, stampOf, tokenOf, messageIn, enterOf, replaceOf, cancelOf, modifyOf, executionOf, bookCancelOf, selfMatchOf, priorityOf, systemOf}
 use Rattle.tape.proofs.Judged.{well-long}
 use Rattle.inbound.specs.Inbound.{enterOrderOf, replaceOrderOf}
@@ -30,7 +28,7 @@ use Rattle.wire.specs.Layout.{Field, Layout, stampAt, layoutFor, firstBadPlace,
 use Rattle.rules.specs.Enter.{enterRule}
 use Rattle.rules.specs.Replace.{replaceRule}
 use Rattle.rules.specs.Plan.{refused}
-use Rattle.rules.specs.Sane.{Sane, Shaped, HeaderHolds, EnterShaped, Keeps}
+use Rattle.rules.specs.Sane.{Sane, Shaped, Keeps}
 use Rattle.rules.proofs.Shapes.{refused-keeps}
 use Rattle.rules.proofs.Keeps.{enter-keeps, replace-keeps, cancel-keeps, modify-keeps}
 use Rattle.market.proofs.Keeps.{execution-keeps, book-cancel-keeps, self-match-keeps, priority-keeps, late-keeps, cross-done-keeps, system-keeps}

@@ -4,7 +4,7 @@ use mathlib.Core.List.{List}
 use Prim.Native.Nat.{ℕ}
 use contract.Lifetimes.{Lfts}
 use denote.Ref.{now}
-use Rattle.octets.proofs.Settles.{Settles, one-result, one-pair}
+use Rattle.octets.proofs.Settles.{Settles, one-pair}
 use Rattle.host.specs.Types.{Answer, Marks}
 use Rattle.host.specs.Step.{Outcome, Leaves}
 use Rattle.host.proofs.step.step.Reads as step

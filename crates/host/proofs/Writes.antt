@@ -1,9 +1,9 @@
 -- What the code that writes a plan down is given: the records that it writes lie in the table, and the counts that it tells are in order.
 -- Assumes nothing.
 use mathlib.Core.Path.{_≡_, refl, sym, ap, _∙_, subst}
-use mathlib.Core.Bool.{Bool, true, false, _&&_, false≢true}
+use mathlib.Core.Bool.{true, _&&_, false≢true}
 use mathlib.Core.List.{List}
-use Prim.Native.Nat.{ℕ, _≤_}
+use Prim.Native.Nat.{ℕ}
 use native.Mathlib.Decide.{ℕ-discrete}
 use native.Mathlib.Omega.{arith}
 use lib.Dec.{eqb}
@@ -15,14 +15,14 @@ use Rattle.table.specs.Order.{noOrder, isUsed}
 use Rattle.table.specs.Table.{HasRecord, header, placeOf, orderNamed, sound}
 use Rattle.tape.specs.Entries.{kindOf, tokenOf, systemOf, systemEntry}
 use Rattle.tape.specs.declared.entry.System.{System}
-use Rattle.rules.specs.Plan.{noPlan, refused, beginning}
+use Rattle.rules.specs.Plan.{noPlan, beginning}
 use Rattle.rules.proofs.Shapes.{change-of}
 use Rattle.rules.proofs.Told.{within}
 use Rattle.market.specs.Day.{systemRule}
-use Rattle.host.specs.Types.{Decision, Plan, Order, Header}
+use Rattle.host.specs.Types.{Decision, Header}
 use Rattle.host.specs.Step.{decide, comesTo, NamedAt, Writable}
 use Rattle.host.proofs.Dispatch.{on-market, on-system}
-use Rattle.host.proofs.Sounds.{S, P, K, changed-fit, free-there, none-unused}
+use Rattle.host.proofs.Sounds.{S, K, changed-fit, free-there, none-unused}
 
 -- the system's entry changes no order
 system-changes-none : (h : Header) (e : System) → systemRule h e .plan .changed ≡ noOrder

@@ -24,7 +24,7 @@ use Rattle.market.specs.Taken.{executionRule, bookCancelRule, selfMatchRule}
 use Rattle.market.specs.Priority.{priorityRule}
 use Rattle.market.specs.Cross.{lateRule, crossDoneRule}
 use Rattle.market.specs.Day.{systemRule}
-use Rattle.host.specs.Types.{Plan, Decision, Order, Header, Marks, Answer, Done, Ignored, Malformed, BadField, TooEarly, Full, Blocked, NotSound, WrongRing}
+use Rattle.host.specs.Types.{Plan, Decision, Order, Header, Marks, Answer, Done, Malformed, BadField, TooEarly, Full, Blocked, NotSound, WrongRing}
 
 pub record World : Type 0 where
   pub table : List ℕ

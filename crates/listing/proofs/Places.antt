@@ -8,7 +8,6 @@ use lib.Dec.{lit<, leb}
 use lib.ListN.{length, length-append}
 use borrow.Author.Tests.{lt-ltb, le-ltb, leb-true, leb-false}
 use Rattle.io.specs.Digits.{digits, Fewest}
-use Rattle.octets.specs.Choice.{pick}
 use Rattle.listing.specs.Lines.{placesWithin, decimal}
 
 -- what takes one digit more than suc j is at least the lowest number that does

@@ -1,13 +1,13 @@
 -- A line is a row of pieces, each put right behind the one before it at the front of 64 bytes. Assumes nothing.
 use Prim.Native.Nat.{ℕ, _+_, _≤_}
 use mathlib.Core.Path.{_≡_, refl, sym, ap, _∙_}
-use mathlib.Core.List.{List, [], _∷_, _++_}
+use mathlib.Core.List.{List, [], _++_}
 use native.Mathlib.Nat.{zero-add}
 use native.Mathlib.Omega.{arith}
-use lib.ListN.{length, take, drop, length-append, length-drop}
+use lib.ListN.{length, take}
 use Rattle.octets.specs.Bytes.{put, joined, zeros}
 use Rattle.octets.proofs.Laws.{Written, start, next, joinedAfter, written-all, written-long, take-put}
-use Rattle.listing.specs.Lines.{Shown, Shows}
+use Rattle.listing.specs.Lines.{Shows}
 
 -- `v` begins with the pieces `ys`, `n` bytes in all
 abbrev pub Row : List ℕ → ℕ → List ℕ → Type 0

@@ -12,7 +12,7 @@ use Rattle.table.specs.Counts.{gone, openShares}
 use Rattle.table.specs.Order.{isLive, isUsed, withShares, withFlags, withSide, killed}
 use Rattle.rules.specs.Types.{Answer, Counts, Order, Plan, Notice, Replaced}
 use Rattle.rules.specs.Plan.{noPlan, refused, changing, renumbering, accepting, replacing as replacingBy, rejecting, beginning}
-use Rattle.rules.specs.Sane.{Open, Shaped, stillLive, toldExecuted, Changed, Change, unchanged, changed, Born, Addition, nothing, rejected, entered, replacing, OfNamed, Shape, nobody, changes, accepts, rejects, replaces, Keeps}
+use Rattle.rules.specs.Sane.{Open, Shaped, stillLive, toldExecuted, Changed, Change, unchanged, changed, Born, Addition, nothing, rejected, entered, replacing, subject, Older, Shape, nobody, changes, accepts, rejects, replaces, Keeps}
 use Rattle.rules.proofs.Standing.{live-state, counted, nothing-open-dead}
 
 -- ---- the shapes of plans
@@ -20,17 +20,17 @@ use Rattle.rules.proofs.Standing.{live-state, counted, nothing-open-dea
 module _ {named found : Order} {token : List ℕ} where
   pub refused-keeps : (answer : Answer) → Keeps named found token (refused answer)
   unfolding noPlan
-  refused-keeps answer = record { shape = nobody refl refl tt; begins = omega arith }
+  refused-keeps answer = record { shape = nobody refl refl refl; begins = omega arith }
 
   pub beginning-keeps : (day event : ℕ) → day ≤ dayClosed → Keeps named found token (beginning day event)
   unfolding beginning
-  beginning-keeps day event known = record { shape = nobody refl refl tt; begins = known }
+  beginning-keeps day event known = record { shape = nobody refl refl refl; begins = known }
 
-  pub changing-keeps : {o : Order} {notice : Notice} → OfNamed notice → Changed named notice o → Keeps named found token (changing o notice)
+  pub changing-keeps : {o : Order} {notice : Notice} → Older (subject notice) → Changed named notice o → Keeps named found token (changing o notice)
   unfolding changing
   changing-keeps of h = record { shape = changes h refl of; begins = omega arith }
 
-  pub renumbering-keeps : {o : Order} {notice : Notice} → OfNamed notice → Changed named notice o
+  pub renumbering-keeps : {o : Order} {notice : Notice} → Older (subject notice) → Changed named notice o
       → Keeps named found token (renumbering o notice)
   unfolding renumbering
   renumbering-keeps of h = record { shape = changes h refl of; begins = omega arith }

@@ -18,7 +18,7 @@ use Rattle.table.specs.Order.{orderOf, noOrder, rejectedOrder, isLive}
 use Rattle.outbound.specs.Outbound.{systemEventBytes, acceptedBytes, replacedBytes, canceledBytes, aiqCancelledBytes, executedBytes, rejectedBytes, cancelPendingBytes, cancelRejectBytes, priorityUpdateBytes, modifiedBytes}
 use Rattle.rules.specs.Limits.{longestMessage}
 use Rattle.rules.specs.Types.{Order, Plan, Decision, Notice, Accepted, AiqCancelled, CancelPending, CancelReject, Canceled, Executed, Modified, PriorityUpdate, Rejected, Replaced, Silent, SystemEvent}
-use Rattle.rules.specs.Sane.{Shaped, Standing, stillLive, nowDead, Change, unchanged, changed, Addition, nothing, rejected, entered, replacing, OfNobody, OfNamed, Shape, nobody, changes, accepts, rejects, replaces, Keeps}
+use Rattle.rules.specs.Sane.{Shaped, Standing, stillLive, nowDead, Change, unchanged, changed, Addition, nothing, rejected, entered, replacing, Subject, ofNone, ofNamed, ofNew, ofBoth, subject, Older, Shape, nobody, changes, accepts, rejects, replaces, Keeps}
 use Rattle.rules.specs.Sent.{acceptedNotice, replacedNotice, canceledNotice, selfMatchNotice, executedNotice, rejectedNotice, priorityNotice, modifiedNotice, noticeBytes, message, AtMostOne, silent, told}
 use Rattle.rules.proofs.Shapes.{change-of, addition-of}
 
@@ -34,27 +34,19 @@ pub record Named (token : List ℕ) : Type 0 where
   pub long : length token ≡ tokenSize
   pub legal : Obeys legalToken token
 
--- the tokens that a notice names: of the changed order, or of the added one
-abbrev Tells : Order → Order → Notice → Type 0
-Tells o new Silent = Unit {0}
-Tells o new (SystemEvent event) = Unit {0}
-Tells o new Accepted = Named (new .token)
-Tells o new Replaced = Named (new .token) × Named (new .details .previous)
-Tells o new (Canceled decrement reason) = Named (o .token)
-Tells o new (AiqCancelled e) = Named (o .token)
-Tells o new (Executed e) = Named (o .token)
-Tells o new (Rejected reason) = Named (new .token)
-Tells o new CancelPending = Named (o .token)
-Tells o new CancelReject = Named (o .token)
-Tells o new PriorityUpdate = Named (o .token)
-Tells o new Modified = Named (o .token)
+-- the tokens that a message names
+abbrev Tells : Subject → Order → Order → Type 0
+Tells ofNone o new = Unit {0}
+Tells ofNamed o new = Named (o .token)
+Tells ofNew o new = Named (new .token)
+Tells ofBoth o new = Named (new .token) × Named (new .details .previous)
 
 -- a stamp of the day, spelled
 in-day : (stamp : ℕ) → stamp < stampEnd → numberOf (digits 8 stamp) < stampEnd
 unfolding numberOf
 in-day stamp legal = omega (arith, number-digits 8 stamp (omega arith))
 
-notice-one : (stamp : ℕ) (o new : Order) (notice : Notice) → stamp < stampEnd → Shaped new → Tells o new notice
+notice-one : (stamp : ℕ) (o new : Order) (notice : Notice) → stamp < stampEnd → Shaped new → Tells (subject notice) o new
     → AtMostOne (noticeBytes stamp o new notice)
 unfolding noticeBytes wellLaid unbroken Obeys systemEventBytes acceptedBytes acceptedNotice replacedBytes replacedNotice canceledBytes canceledNotice aiqCancelledBytes selfMatchNotice executedBytes executedNotice rejectedBytes rejectedNotice cancelPendingBytes cancelRejectBytes priorityUpdateBytes priorityNotice modifiedBytes modifiedNotice
 notice-one stamp o new Silent d sn n = silent refl
@@ -122,42 +114,19 @@ added-within (replacing h) = let shares = h .shares in omega arith
 
 -- ---- of every decision that keeps what it should
 
--- a notice of nobody, and one of the changed order
-of-nobody : (o new : Order) (notice : Notice) → OfNobody notice → Tells o new notice
-of-nobody o new Silent of = tt
-of-nobody o new (SystemEvent event) of = tt
-of-nobody o new Accepted of = absurd of
-of-nobody o new Replaced of = absurd of
-of-nobody o new (Canceled decrement reason) of = absurd of
-of-nobody o new (AiqCancelled e) of = absurd of
-of-nobody o new (Executed e) of = absurd of
-of-nobody o new (Rejected reason) of = absurd of
-of-nobody o new CancelPending of = absurd of
-of-nobody o new CancelReject of = absurd of
-of-nobody o new PriorityUpdate of = absurd of
-of-nobody o new Modified of = absurd of
-
-of-named : (o new : Order) (notice : Notice) → OfNamed notice → Named (o .token) → Tells o new notice
-of-named o new Silent of n = tt
-of-named o new (SystemEvent event) of n = absurd of
-of-named o new Accepted of n = absurd of
-of-named o new Replaced of n = absurd of
-of-named o new (Canceled decrement reason) of n = n
-of-named o new (AiqCancelled e) of n = n
-of-named o new (Executed e) of n = n
-of-named o new (Rejected reason) of n = absurd of
-of-named o new CancelPending of n = n
-of-named o new CancelReject of n = n
-of-named o new PriorityUpdate of n = n
-of-named o new Modified of n = n
+older : (x : Subject) (o new : Order) → Older x → Named (o .token) → Tells x o new
+older ofNone o new of n = tt
+older ofNamed o new of n = n
+older ofNew o new of n = absurd of
+older ofBoth o new of n = absurd of
 
 module _ {named found : Order} {token : List ℕ} {d : Decision} (keeps : Keeps named found token d) where
   -- the named order's token is legal where it is live, and so is the token that may be used up
   module _ (stands : isLive named ≡ true → Named (named .token)) (used : Named token) where
-    tells : (p : Plan) → Shape named found token p → Tells (p .changed) (p .added) (p .notice)
+    tells : (p : Plan) → Shape named found token p → Tells (subject (p .notice)) (p .changed) (p .added)
     unfolding rejectedOrder
-    tells p (nobody c a of) = of-nobody (p .changed) (p .added) (p .notice) of
-    tells p (changes c a of) = of-named (p .changed) (p .added) (p .notice) of (rw (c .token) (stands (c .alive)))
+    tells p (nobody c a of) = rw of tt
+    tells p (changes c a of) = older (subject (p .notice)) (p .changed) (p .added) of (rw (c .token) (stands (c .alive)))
     tells p (accepts f c born e) = rw e (rw (born .token) used)
     tells p (rejects f c a reason e) = rw (e, a) used
     tells p (replaces f c end born e) = rw e (rw (born .token) used, rw (born .previous) (stands (c .alive)))

@@ -87,42 +87,42 @@ pub record Born (t : List ℕ) (e m : ℕ) (before : List ℕ) (new : Order) : T
   pub matched : new .shares .matched .0 ≡ m
   pub previous : new .details .previous ≡ before
 
--- ---- the shapes of plans, and of which order the message tells
+-- ---- of which order a message tells
 
--- nobody's order
-abbrev pub OfNobody : Notice → Type 0
-OfNobody Silent = Unit {0}
-OfNobody (SystemEvent event) = Unit {0}
-OfNobody Accepted = ⊥
-OfNobody Replaced = ⊥
-OfNobody (Canceled decrement reason) = ⊥
-OfNobody (AiqCancelled e) = ⊥
-OfNobody (Executed e) = ⊥
-OfNobody (Rejected reason) = ⊥
-OfNobody CancelPending = ⊥
-OfNobody CancelReject = ⊥
-OfNobody PriorityUpdate = ⊥
-OfNobody Modified = ⊥
+pub data Subject : Type 0 where
+  ofNone : Subject
+  ofNamed : Subject
+  ofNew : Subject
+  -- the new one, and the one before it
+  ofBoth : Subject
 
--- the order that the entry names
-abbrev pub OfNamed : Notice → Type 0
-OfNamed Silent = Unit {0}
-OfNamed (SystemEvent event) = ⊥
-OfNamed Accepted = ⊥
-OfNamed Replaced = ⊥
-OfNamed (Canceled decrement reason) = Unit {0}
-OfNamed (AiqCancelled e) = Unit {0}
-OfNamed (Executed e) = Unit {0}
-OfNamed (Rejected reason) = ⊥
-OfNamed CancelPending = Unit {0}
-OfNamed CancelReject = Unit {0}
-OfNamed PriorityUpdate = Unit {0}
-OfNamed Modified = Unit {0}
+abbrev pub subject : Notice → Subject
+subject Silent = ofNone
+subject (SystemEvent event) = ofNone
+subject Accepted = ofNew
+subject Replaced = ofBoth
+subject (Canceled decrement reason) = ofNamed
+subject (AiqCancelled e) = ofNamed
+subject (Executed e) = ofNamed
+subject (Rejected reason) = ofNew
+subject CancelPending = ofNamed
+subject CancelReject = ofNamed
+subject PriorityUpdate = ofNamed
+subject Modified = ofNamed
+
+-- of no new order
+abbrev pub Older : Subject → Type 0
+Older ofNone = Unit {0}
+Older ofNamed = Unit {0}
+Older ofNew = ⊥
+Older ofBoth = ⊥
+
+-- ---- the shapes of plans
 
 -- `token` is the one that the entry may use up, and `found` the order that the table has under it already
 pub data Shape (named found : Order) (token : List ℕ) (p : Plan) : Type 0 where
-  nobody : p .changed ≡ noOrder → p .added ≡ noOrder → OfNobody (p .notice) → Shape named found token p
-  changes : Changed named (p .notice) (p .changed) → p .added ≡ noOrder → OfNamed (p .notice) → Shape named found token p
+  nobody : p .changed ≡ noOrder → p .added ≡ noOrder → subject (p .notice) ≡ ofNone → Shape named found token p
+  changes : Changed named (p .notice) (p .changed) → p .added ≡ noOrder → Older (subject (p .notice)) → Shape named found token p
   accepts : isUsed found ≡ false → p .changed ≡ noOrder → Born token 0 0 (zeros tokenSize) (p .added) → p .notice ≡ Accepted
       → Shape named found token p
   rejects : isUsed found ≡ false → p .changed ≡ noOrder → p .added ≡ rejectedOrder token → (reason : ℕ) → p .notice ≡ Rejected reason

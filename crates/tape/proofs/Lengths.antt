@@ -1,12 +1,11 @@
 -- The table of lengths says what the layouts say: once over any list of layouts. Assumes nothing.
 use Prim.Native.Nat.{ℕ, suc, _≤_}
-use mathlib.Core.Path.{_≡_, refl, sym, ap, _∙_}
+use mathlib.Core.Path.{_≡_, refl, sym, _∙_}
 use mathlib.Core.Bool.{Bool, true, false}
 use mathlib.Core.List.{List, [], _∷_, map}
 use mathlib.Core.Option.{some}
-use native.Mathlib.Omega.{arith}
 use lib.Dec.{eqb}
-use lib.ListN.{length, getD, List·getD-eq-default}
+use lib.ListN.{getD, List·getD-eq-default}
 use Rattle.octets.specs.Choice.{pick}
 use Rattle.wire.specs.Layout.{Layout, layoutFor}
 use Rattle.tape.specs.Entries.{placeIn, sizeFor, kinds, entryLength, kindPlace}

@@ -7,7 +7,6 @@ use native.Mathlib.Numerals.{add-one}
 use native.Mathlib.Omega.{arith}
 use lib.ListN.{getD}
 use lib.Dec.{lit<}
-use borrow.Author.Needs.{needs}
 use Rattle.octets.specs.Bytes.{numberAt, numberOf, numberFrom}
 use Rattle.octets.proofs.Laws.{number-next}
 use Rattle.octets.proofs.number_at.Statement.{statement}

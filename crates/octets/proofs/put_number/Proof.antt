@@ -1,10 +1,9 @@
 -- The loop's invariant: what is still to be put, the first `k` bytes of `rest`, makes of `s` what is to be made of it. The measure is `k`.
 -- Assumes nothing.
 use mathlib.Core.Path.{_≡_, refl, sym, ap, _∙_}
-use Prim.Native.Nat.{ℕ, suc, _+_, _-_, _*_, _/_, _%_, _≤_, _<_}
+use Prim.Native.Nat.{ℕ, suc, _-_, _≤_}
 use native.Mathlib.Omega.{arith}
-use lib.ListN.{length, set, length-set}
-use borrow.Author.Needs.{needs}
+use lib.ListN.{length, length-set}
 use Rattle.octets.specs.Bytes.{put, digits}
 use Rattle.octets.proofs.Laws.{put-digits, put-none}
 use Rattle.octets.proofs.put_number.Statement.{statement}

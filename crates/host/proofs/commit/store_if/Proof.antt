@@ -1,5 +1,5 @@
 -- Stored where there is an order, and nothing written where there is none. Assumes nothing.
-use mathlib.Core.Path.{_≡_, sym, _∙_}
+use mathlib.Core.Path.{sym, _∙_}
 use Rattle.host.specs.Step.{storeIf}
 use borrow.Author.Needs.{needs}
 use Rattle.host.proofs.commit.store_if.Statement.{statement}

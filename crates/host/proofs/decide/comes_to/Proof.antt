@@ -1,5 +1,5 @@
 -- The order is taken from its place, the rule decides, and the limits are asked. Assumes nothing.
-use mathlib.Core.Path.{_≡_, sym, ap, _∙_, subst}
+use mathlib.Core.Path.{sym, ap, _∙_, subst}
 use native.Mathlib.Omega.{arith}
 use Rattle.table.specs.Table.{orderFrom, orderNamed}
 use Rattle.table.proofs.Soundness.{of-sound, sound-fit}

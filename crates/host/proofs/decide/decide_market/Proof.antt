@@ -1,6 +1,5 @@
 -- Each return is the rule that the entry's kind comes to. Assumes nothing.
-use Prim.Native.Nat.{ℕ}
-use mathlib.Core.Path.{_≡_, sym, ap, _∙_}
+use mathlib.Core.Path.{_≡_, sym, _∙_}
 use borrow.Author.Needs.{needs}
 use Rattle.wire.specs.Layout.{layoutFor}
 use Rattle.tape.specs.Entries.{kindOf}

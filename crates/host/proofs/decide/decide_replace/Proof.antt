@@ -1,7 +1,6 @@
 -- What the replacement token means so far is found, and the rule is asked. Assumes nothing.
-use mathlib.Core.Path.{_≡_, ap, _∙_}
 use borrow.Author.Needs.{needs}
-use Rattle.table.specs.Table.{orderNamed, orderFrom}
+use Rattle.table.specs.Table.{orderNamed}
 use Rattle.table.proofs.Soundness.{of-sound, sound-fit}
 use Rattle.host.proofs.decide.decide_replace.Statement.{statement}
 use Rattle.host.proofs.decide.decide_replace.Tie as tie

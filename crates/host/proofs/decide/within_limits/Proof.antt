@@ -1,5 +1,5 @@
 -- Each return is the guard of `withinLimits` that its tests led to. Assumes nothing.
-use mathlib.Core.Path.{_≡_, sym, _∙_}
+use mathlib.Core.Path.{_∙_}
 use Rattle.table.specs.Table.{recordsIn}
 use Rattle.host.specs.Step.{noRecordFree, noReferenceLeft}
 use Rattle.host.proofs.Offers.{number-done, number-not-done, limits-refused, limits-record, limits-reference, limits-fine}

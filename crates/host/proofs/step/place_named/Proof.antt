@@ -1,5 +1,5 @@
 -- The token's place is found; the system's entries have none to find. Assumes nothing.
-use mathlib.Core.Path.{_≡_, ap, _∙_}
+use mathlib.Core.Path.{ap, _∙_}
 use native.Mathlib.Omega.{arith}
 use Rattle.table.specs.Table.{placeOf}
 use Rattle.table.proofs.Soundness.{of-sound, sound-fit}

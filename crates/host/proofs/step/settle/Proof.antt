@@ -1,6 +1,6 @@
 -- Each return is the guard of `settle` that its tests led to. Assumes nothing.
 use Prim.Native.Nat.{ℕ, _-_, _<_}
-use mathlib.Core.Path.{_≡_, sym, ap, _∙_}
+use mathlib.Core.Path.{sym, ap, _∙_}
 use native.Mathlib.Omega.{arith}
 use lib.ListN.{length}
 use Rattle.outbox.specs.Outbox.{freeBytes}

@@ -1,6 +1,6 @@
 -- Judged, and then offered. Assumes nothing.
-use mathlib.Core.Path.{_≡_, sym, _∙_, subst}
-use Rattle.host.specs.Step.{Outcome, world, Leaves}
+use mathlib.Core.Path.{sym, _∙_}
+use Rattle.host.specs.Step.{world}
 use Rattle.host.proofs.Offers.{leaves-as, leaves-unchanged, step-unsound, step-wrong, step-offers}
 use borrow.Author.Needs.{needs}
 use Rattle.host.proofs.step.step.Statement.{statement}

@@ -1,6 +1,6 @@
 -- Too early, or what the entry comes to, settled. Assumes nothing.
-use Prim.Native.Nat.{ℕ, _≤_, _<_}
-use mathlib.Core.Path.{_≡_, sym, ap, _∙_, subst}
+use Prim.Native.Nat.{_≤_, _<_}
+use mathlib.Core.Path.{sym, ap, _∙_, subst}
 use native.Mathlib.Omega.{arith}
 use Rattle.answers.specs.Answer.{isDone}
 use Rattle.table.specs.Table.{header}
@@ -8,7 +8,7 @@ use Rattle.table.proofs.Soundness.{of-sound}
 use Rattle.tape.specs.Entries.{stampOf}
 use Rattle.tape.proofs.Judged.{stamp-fits}
 use Rattle.host.specs.Types.{Header, Decision}
-use Rattle.host.specs.Step.{Outcome, world, settle, Leaves, Writable}
+use Rattle.host.specs.Step.{world, settle, Writable}
 use Rattle.host.proofs.Offers.{leaves-as, leaves-unchanged, well-formed, comes-decided, offer-early, offer-decided}
 use Rattle.host.proofs.Sounds.{P}
 use Rattle.host.proofs.Writes.{writable}

@@ -1,12 +1,8 @@
 -- Each return is the guard of `cutAt` that its tests led to; the length is what the kind byte fixes. Assumes nothing.
-use Prim.Native.Nat.{ℕ, _-_, _<_}
-use mathlib.Core.Path.{_≡_, sym, ap, _∙_}
-use mathlib.Core.Bool.{true, false}
+use Prim.Native.Nat.{_-_}
+use mathlib.Core.Path.{sym, _∙_}
 use borrow.Author.Needs.{needs}
 use borrow.Author.Tests.{le-leb, lt-leb, lt-ltb, le-ltb, eq-eqb, ne-eqb}
-use lib.Dec.{eqb, ltb}
-use lib.ListN.{length, getD}
-use Rattle.tape.specs.Entries.{entryLength}
 use Rattle.tape.specs.Cutting.{cutAt}
 use Rattle.tape.proofs.cutting.cut_at.Statement.{statement}
 use Rattle.tape.proofs.cutting.cut_at.Tie as tie

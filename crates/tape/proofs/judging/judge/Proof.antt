@@ -1,7 +1,6 @@
 -- 2 where the kind fixes no length or another one, 3 where there is a first bad place. Assumes nothing.
 use mathlib.Core.Path.{_≡_, sym, ap, _∙_}
 use mathlib.Core.Bool.{true}
-use lib.ListN.{length}
 use borrow.Author.Needs.{needs}
 use Rattle.tape.specs.Entries.{kindOf, entryLength, wellFormed}
 use Rattle.tape.proofs.Judged.{not-well, no-kind, well, answer-malformed, answer-done, answer-bad}
