@@ -29,7 +29,7 @@ static uint8_t step(const uint8_t *entry, size_t length)
 
 static void freshes(void)
 {
-    is("fresh of 143 bytes", 10, pq_fresh(table, 143, 1000000, BYTES("ABCD")));
+    is("fresh of 143 bytes, threshold 0", 10, pq_fresh(table, 143, 0, BYTES("ABCD")));
     is("fresh, threshold 0", 3, pq_fresh(table, sizeof table, 0, BYTES("ABCD")));
     is("fresh, firms of 5 bytes", 3, pq_fresh(table, sizeof table, 1000000, BYTES("ABCDE")));
     is("fresh, nine firms", 3, pq_fresh(table, sizeof table, 1000000, BYTES("A   B   C   D   E   F   G   H   I   ")));
@@ -69,7 +69,7 @@ static void wrongs(void)
     size_t past = sizeof ring, none = 0;
     is("step with a place past the ring", 11, pq_step(table, sizeof table, ring, sizeof ring, &past, &none, BYTES(cancel)));
     is("read with it", 0, pq_read(ring, sizeof ring, past, 1));
-    is("release with it", 11, pq_release(sizeof ring, &past, &none, 0));
+    is("release of 1 with it", 11, pq_release(sizeof ring, &past, &none, 1));
     table[0] = 3;
     is("step on a damaged table", 10, step(BYTES(cancel)));
 }
@@ -79,7 +79,7 @@ static void echoes(void)
     is("echo", 0, pq_echo(1, BYTES(message), out, sizeof out));
     is("echoed bytes differ", 0, memcmp(out, message, sizeof message - 1) != 0);
     is("echo as the host's", 2, pq_echo(0, BYTES(message), out, sizeof out));
-    is("echo with a bad token", 3, pq_echo(1, BYTES("XTOKEN!        \0\0\0\0"), out, sizeof out));
+    is("echo with a bad token into 18 bytes", 3, pq_echo(1, BYTES("XTOKEN!        \0\0\0\0"), out, 18));
     is("echo into 18 bytes", 13, pq_echo(1, BYTES(message), out, 18));
 }
 

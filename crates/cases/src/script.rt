@@ -1,7 +1,7 @@
 // A script as it is played through the host: words of a letter and a number, each with a space behind it.
 //
 // A B D !   the next entries name this token (! is in no legal one); A before the first
-// =         a replace names it twice, and is to B or, from B and D, to A otherwise
+// =         from here on a replace names its token twice; before, A is replaced by B and any other by A
 // C         the next orders are for the closing cross
 // $ t       the next prices and times in force; 10,000 and 99,999 before the first
 // @         the next stamps, in seconds; 34,200 before the first
