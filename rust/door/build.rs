@@ -55,4 +55,6 @@ fn link(archive: &Path) {
     println!("cargo::rustc-cfg=linked");
     println!("cargo::rustc-link-search=native={}", folder.display());
     println!("cargo::rustc-link-lib=static:+verbatim={}", file.display());
+    // For the build of the benchmark, whose own archive stands beside this one.
+    println!("cargo::metadata=folder={}", folder.display());
 }

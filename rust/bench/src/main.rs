@@ -1,10 +1,12 @@
 //! The benchmark: the proved functions beside plain Rust, as ratios of one run.
 
-#![forbid(unsafe_code)]
+#![deny(unsafe_code)]
 
 mod plain;
 mod race;
 mod rows;
+#[cfg(weighed)]
+mod scales;
 mod scene;
 
 use std::process::ExitCode;
@@ -22,10 +24,18 @@ fn main() -> ExitCode {
     for row in USED.into_iter().flat_map(rows::steps) {
         println!("{row}");
     }
-    println!("{}", rows::put());
+    #[cfg(weighed)]
+    for row in rows::weighed(USED) {
+        println!("{row}");
+    }
     println!("{}", rows::release_alone());
     for (inbound, message) in scene::messages() {
         println!("{}", rows::codec(inbound, &message));
+    }
+    if !cfg!(weighed) {
+        eprintln!(
+            "no libscales.a beside the archive: put and sound are not measured by themselves"
+        );
     }
     ExitCode::SUCCESS
 }

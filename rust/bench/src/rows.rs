@@ -10,6 +10,8 @@ use second::{Host, Outbox};
 
 use crate::plain;
 use crate::race::{CALLS, race, timed};
+#[cfg(weighed)]
+use crate::scales;
 use crate::scene::Scene;
 
 /// A ring that has room for what a turn of steps sends.
@@ -80,26 +82,55 @@ pub fn steps(used: usize) -> [Row; 2] {
     ]
 }
 
-/// Put. The archive has no call for it alone, so its time is what a done step takes beyond the
-/// same step that is blocked: the record's writing is in it.
-pub fn put() -> Row {
-    let scene = Scene::new(1);
-    let mut done = Proved::new(scene.clone());
-    let mut blocked = Proved::new(scene);
-    let message = [0x5a; SENT];
+/// What a step calls, by itself: judging tables with so many used records, and a put.
+#[cfg(weighed)]
+pub fn weighed(used: impl IntoIterator<Item = usize>) -> Vec<Row> {
+    used.into_iter()
+        .map(sound_alone)
+        .chain([put_alone()])
+        .collect()
+}
+
+#[cfg(weighed)]
+fn sound_alone(used: usize) -> Row {
+    let table = Scene::new(used).table;
+    let [proved, other] = race([
+        &mut || timed(|| assert!(scales::sound(black_box(&table)))),
+        &mut || timed(|| assert!(black_box(plain::judge(black_box(&table))))),
+    ]);
+    Row {
+        what: format!("sound, {used} used"),
+        beside: "judge by hand",
+        proved,
+        other,
+        aim: None,
+    }
+}
+
+#[cfg(weighed)]
+fn put_alone() -> Row {
+    // A slice, since neither is to know the length beforehand.
+    let message = [0x5a; SENT].as_slice();
+    let mut ring = [0; RING_LEN];
     let mut deque = VecDeque::<u8>::with_capacity(RING_LEN);
-    let [done, blocked, deque] = race([
-        &mut || done.done_steps(),
-        &mut || blocked.blocked_steps(),
+    let [proved, deque] = race([
+        &mut || {
+            let mut marks = Marks::default();
+            timed(|| {
+                let answer = scales::put(black_box(&mut ring), marks, black_box(message));
+                assert_eq!(answer, 0);
+                marks.held += SENT;
+            })
+        },
         &mut || {
             deque.clear();
-            timed(|| black_box(&mut deque).extend(black_box(&message)))
+            timed(|| black_box(&mut deque).extend(black_box(message)))
         },
     ]);
     Row {
-        what: format!("put of {SENT} bytes, with the record's writing"),
+        what: format!("put of {SENT} bytes"),
         beside: "VecDeque",
-        proved: done - blocked,
+        proved,
         other: deque,
         aim: Some(1.0),
     }
@@ -191,16 +222,6 @@ impl Proved {
             let entry = entries.next().expect("a cycle has no end");
             let answer = step(&mut self.scene.table, &mut self.ring, &mut marks, entry);
             assert_eq!(answer, Answer::Done);
-        })
-    }
-
-    /// A turn of steps that find the ring full.
-    fn blocked_steps(&mut self) -> Duration {
-        let mut marks = full();
-        let entry = &self.scene.to_and_fro[0];
-        timed(|| {
-            let answer = step(&mut self.scene.table, &mut self.ring, &mut marks, entry);
-            assert_eq!(answer, Answer::NoRoom);
         })
     }
 }

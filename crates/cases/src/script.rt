@@ -1,0 +1,153 @@
+// A script as it is played through the host: words of a letter and a number, each with a space behind it.
+//
+// A B D !   the next entries name this token (! is in no legal one); A before the first
+// =         from here on a replace names its token twice; before, A is replaced by B and any other by A
+// C         the next orders are for the closing cross
+// $ t       the next prices and times in force; 10,000 and 99,999 before the first
+// @         the next stamps, in seconds; 34,200 before the first
+// <         so many bytes are cut off the next entries
+// R         the ring has so many bytes
+// T N       a byte of the table is damaged; the next reference is the one past the last
+// k g       what is held stays held; what is held is read and released
+//
+// Every other letter is an entry of that kind with so many shares (E: the day ends). Unless k was said the ring is emptied before it.
+use crate::entries::entry;
+use crate::entries::size;
+use crate::run::Run;
+use crate::run::answered;
+use crate::run::begun;
+use crate::run::marked;
+use crate::run::set;
+use crate::run::sets;
+use crate::text::part;
+use crate::text::put;
+use answers::number;
+use host::step::step;
+use outbox::marks::Marks;
+use outbox::read::read;
+use outbox::release::release;
+
+// Two records, so that A and B fill the table.
+pub const TABLE_SIZE: usize = 224;
+
+// The reference that the next one is at when none is left: 10^18.
+const PAST_THE_LAST: [u8; 8] = [0x0d, 0xe0, 0xb6, 0xb3, 0xa7, 0x64, 0, 0];
+
+// What is carried from one character of a script to the next.
+struct Word {
+    run: Run,
+    letter: u8,
+    n: u32,
+}
+
+// The run at the read place is read and given up. A message that wraps at the ring's end is two runs.
+fn given_up(ring: &[u8], marks: Marks) -> Marks {
+    let moved = release(ring.len(), marks, read(ring, marks).len());
+    moved.marks
+}
+
+fn emptied(ring: &[u8], run: Run) -> Run {
+    let marks = run.marks;
+    marked(run, given_up(ring, given_up(ring, marks)))
+}
+
+// Table and ring one after the other, to be held against what they are later.
+fn copied(table: &[u8], ring: &[u8]) -> [u8; 352] {
+    let mut bytes = [0u8; 352];
+    let at = put(&mut bytes, 0, table);
+    put(&mut bytes, at, ring);
+    bytes
+}
+
+fn offered(table: &mut [u8], ring: &mut [u8], run: Run, entry: &[u8]) -> Run {
+    let was = run.marks;
+    let before = copied(table, ring);
+    let stepped = step(table, ring, was, entry);
+    let marks = stepped.marks;
+    let answer = stepped.answer;
+    let after = copied(table, ring);
+    let same = check::same(&before, &after) & (marks.at == was.at) & (marks.held == was.held);
+    answered(run, marks, number(answer), !same)
+}
+
+fn played(table: &mut [u8], ring: &mut [u8], before: Run, kind: u8, n: u32) -> Run {
+    let mut run = before;
+    if !before.keeps {
+        run = emptied(ring, before);
+    }
+    let bytes = entry(run, kind, n);
+    offered(table, ring, run, part(&bytes, 0, size(run, kind)))
+}
+
+fn acted(table: &mut [u8], ring: &mut [u8], run: Run, letter: u8, n: u32) -> Run {
+    if letter == b' ' {
+        return run;
+    }
+    if letter == b'T' {
+        put(table, 0, &[9]);
+        return run;
+    }
+    if letter == b'N' {
+        put(table, 16, &PAST_THE_LAST);
+        return run;
+    }
+    if letter == b'g' {
+        return emptied(ring, run);
+    }
+    if sets(letter) {
+        return set(run, letter, n);
+    }
+    played(table, ring, run, letter, n)
+}
+
+fn ended(table: &mut [u8], ring: &mut [u8], word: Word) -> Word {
+    let before = word.run;
+    let r = before.ring;
+    if ring.len() < r {
+        return word;
+    }
+    Word {
+        run: acted(table, &mut ring[0..r], before, word.letter, word.n),
+        letter: b' ',
+        n: 0,
+    }
+}
+
+fn lettered(before: Word, c: u8) -> Word {
+    let mut word = before;
+    word.letter = c;
+    word
+}
+
+// No number of a script is longer than this leaves room for.
+fn numbered(before: Word, digit: u8) -> Word {
+    let mut word = before;
+    word.n = word.n % 400_000_000 * 10 + digit as u32;
+    word
+}
+
+fn followed(table: &mut [u8], ring: &mut [u8], word: Word, c: u8) -> Word {
+    if c == b' ' {
+        return ended(table, ring, word);
+    }
+    if b'0' <= c {
+        if c <= b'9' {
+            return numbered(word, c - b'0');
+        }
+    }
+    lettered(word, c)
+}
+
+pub fn play(table: &mut [u8], ring: &mut [u8], script: &[u8]) -> Run {
+    let mut word = Word {
+        run: begun(),
+        letter: b' ',
+        n: 0,
+    };
+    let mut i: usize = 0;
+    while i < script.len() {
+        word = followed(table, ring, word, script[i]);
+        i += 1;
+    }
+    word.run
+}

@@ -1,0 +1,39 @@
+//! The archive `scales`: proved functions that a step calls, by themselves.
+
+#![allow(unsafe_code, reason = "the functions are C's")]
+
+use pilaqsevi::Marks;
+
+unsafe extern "C" {
+    fn pq_sound(table: *const u8, table_len: usize) -> u8;
+    fn pq_put(
+        ring: *mut u8,
+        ring_len: usize,
+        at: usize,
+        held: usize,
+        message: *const u8,
+        message_len: usize,
+    ) -> u8;
+}
+
+/// Whether the table is sound.
+pub fn sound(table: &[u8]) -> bool {
+    // SAFETY: the pointer comes with its slice's length, and the function keeps none.
+    unsafe { pq_sound(table.as_ptr(), table.len()) == 1 }
+}
+
+/// The number that putting the message behind the held bytes is answered with.
+pub fn put(ring: &mut [u8], marks: Marks, message: &[u8]) -> u8 {
+    // SAFETY: both pointers come with their slices' lengths, the borrows are apart and last
+    // through the call, and the function keeps no pointer.
+    unsafe {
+        pq_put(
+            ring.as_mut_ptr(),
+            ring.len(),
+            marks.at,
+            marks.held,
+            message.as_ptr(),
+            message.len(),
+        )
+    }
+}
