@@ -16,7 +16,8 @@ use Rattle.wire.specs.Limits.{stampEnd, tokenSize}
 use Rattle.wire.specs.Layout.{Layout, layoutFor, firstBadPlace, badPlace, below, legalToken, orElse, place, earlierOf, isNone}
 use Rattle.wire.specs.declared.places.Place.{Place}
 use Rattle.wire.specs.declared.places.Place.the-variants.{Nowhere, At}
-use Rattle.tape.specs.Entries.{kinds, kindOf, lengthIs, wellFormed, firstBadIn, badPlaceOf, allLegal, entryAnswer, sizeFor, entryLength, cancelEntry, lateEntry, crossDoneEntry, enterEntry, replaceEntry, modifyEntry, executionEntry, bookCancelEntry, selfMatchEntry, priorityEntry, systemEntry}
+use Rattle.wire.specs.Messages.{sizeOr0}
+use Rattle.tape.specs.Entries.{kinds, kindOf, lengthIs, wellFormed, firstBadIn, badPlaceOf, allLegal, entryAnswer, entryLength, cancelEntry, lateEntry, crossDoneEntry, enterEntry, replaceEntry, modifyEntry, executionEntry, bookCancelEntry, selfMatchEntry, priorityEntry, systemEntry}
 use Rattle.tape.specs.Behind.{badStamp, badToken}
 
 never-true : (b : Bool) → (b ≡ true → ⊥) → b ≡ false
@@ -25,7 +26,7 @@ never-true false h = refl
 
 -- ---- lengths
 
-is-long : (l : Option Layout) (n : ℕ) → lengthIs l n ≡ true → n ≡ sizeFor l
+is-long : (l : Option Layout) (n : ℕ) → lengthIs l n ≡ true → n ≡ sizeOr0 l
 unfolding lengthIs
 is-long none n h = absurd (false≢true h)
 is-long (some l) n h = eqb-true n (l .size) h
@@ -85,7 +86,7 @@ not-well s h = never-true (wellFormed s) (λ w. h (well-long s (kindOf s) refl w
 pub no-kind : (s : List ℕ) → entryLength (kindOf s) ≡ 0 → wellFormed s ≡ false
 no-kind s z = never-true (wellFormed s) (λ w. omega (arith, well-long s (kindOf s) refl w, stamp-fits s w))
 
-has-size : (l : Option Layout) (n : ℕ) → (sizeFor l ≡ 0 → ⊥) → n ≡ sizeFor l → lengthIs l n ≡ true
+has-size : (l : Option Layout) (n : ℕ) → (sizeOr0 l ≡ 0 → ⊥) → n ≡ sizeOr0 l → lengthIs l n ≡ true
 unfolding lengthIs
 has-size none n k h = absurd (k refl)
 has-size (some l) n k h = eq-eqb n (l .size) h

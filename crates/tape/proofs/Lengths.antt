@@ -8,19 +8,20 @@ use lib.Dec.{eqb}
 use lib.ListN.{getD, List·getD-eq-default}
 use Rattle.octets.specs.Choice.{pick}
 use Rattle.wire.specs.Layout.{Layout, layoutFor}
-use Rattle.tape.specs.Entries.{placeIn, sizeFor, kinds, entryLength, kindPlace}
+use Rattle.wire.specs.Messages.{sizeOr0}
+use Rattle.tape.specs.Entries.{placeIn, kinds, entryLength, kindPlace}
 
 unfoldable pub sizes : List Layout → List ℕ
 sizes ls = map (λ (l : Layout). l .size) ls
 
 -- what stands in the table at a code's place is the length of the code's layout, and 0 past the end
-pub table-rule : (ls : List Layout) (code : ℕ) → getD (sizes ls) (placeIn ls code) 0 ≡ sizeFor (layoutFor ls code)
+pub table-rule : (ls : List Layout) (code : ℕ) → getD (sizes ls) (placeIn ls code) 0 ≡ sizeOr0 (layoutFor ls code)
 unfolding placeIn layoutFor sizes
 table-rule [] code = refl
 table-rule (l ∷ ls) code = by (eqb (l .code) code) (table-rule ls code)
   where
-    by : (b : Bool) → getD (sizes ls) (placeIn ls code) 0 ≡ sizeFor (layoutFor ls code)
-        → getD (sizes (l ∷ ls)) (pick b 0 (suc (placeIn ls code))) 0 ≡ sizeFor (pick b (some l) (layoutFor ls code))
+    by : (b : Bool) → getD (sizes ls) (placeIn ls code) 0 ≡ sizeOr0 (layoutFor ls code)
+        → getD (sizes (l ∷ ls)) (pick b 0 (suc (placeIn ls code))) 0 ≡ sizeOr0 (pick b (some l) (layoutFor ls code))
     by true rest = refl
     by false rest = rest
 

@@ -10,7 +10,7 @@ use Rattle.octets.specs.Choice.{pick, firstOf_, _⇒_⨾_}
 use Rattle.answers.specs.declared.Answer.{Answer}
 use Rattle.answers.specs.declared.Answer.the-variants.{Done, Malformed, BadField}
 use Rattle.wire.specs.Layout.{Layout, stampAt, tokenAt, numberAt, liquidityAt, bookReasonAt, systemEventAt, limitPriceAt, shifted, layoutFor, firstBadPlace, isNone, get, reading}
-use Rattle.wire.specs.Messages.{enterOrder, replaceOrder, cancelOrder, modifyOrder}
+use Rattle.wire.specs.Messages.{enterOrder, replaceOrder, cancelOrder, modifyOrder, sizeOr0}
 use Rattle.wire.specs.Shares.{removed}
 use Rattle.inbound.specs.Inbound.{enterOrderOf, replaceOrderOf, cancelOrderOf, modifyOrderOf}
 use Rattle.inbound.specs.declared.enter_order.EnterOrder.{EnterOrder}
@@ -115,12 +115,8 @@ abbrev pub kindPlace : ℕ → ℕ
 kindPlace kind = placeIn kinds kind
 
 -- the length that a kind fixes; 0 for a byte that is no kind
-abbrev pub sizeFor : Option Layout → ℕ
-sizeFor none = 0
-sizeFor (some l) = l .size
-
 abbrev pub entryLength : ℕ → ℕ
-entryLength kind = sizeFor (layoutFor kinds kind)
+entryLength kind = sizeOr0 (layoutFor kinds kind)
 
 -- ---- judging
 
