@@ -1,6 +1,7 @@
 // What every call of the host answers, and the one place where an answer becomes the paper's number.
 ghost use mathlib.Core.Path.{_≡_};
-ghost use Rattle.answers.specs.Answer.{answerNumber};
+ghost use Rattle.octets.specs.Choice.{_⇒_⨾_};
+ghost use Rattle.answers.specs.Answer.{answerNumber, isDone};
 
 // In the paper's order of checking; the last three are a release's, a writer's, and the only one that changes anything.
 pub enum Answer {
@@ -40,4 +41,18 @@ pub fn number(answer: Answer) -> u8
         Answer::NoRoom => 13,
         Answer::Done => 0,
     }
+}
+
+// Only a call that answers Done has changed anything, and only an entry that comes to it goes on.
+pub fn is_done(answer: Answer) -> bool
+    ensures { λ r. ⌜ r ≡ isDone answer ⌝ }
+{
+    number(answer) == 0
+}
+
+// The paper's 'first that applies', one question at a time: this answer where the test holds, and else what the later questions answer.
+pub fn first_of(test: bool, this: Answer, later: Answer) -> Answer
+    ensures { λ r. ⌜ r ≡ (test ⇒ this ⨾ later) ⌝ }
+{
+    if test { this } else { later }
 }

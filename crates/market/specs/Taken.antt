@@ -3,7 +3,7 @@
 use mathlib.Core.Bool.{Bool, not, _||_}
 use lib.Dec.{eqb}
 use Rattle.octets.specs.Choice.{firstOf_, _⇒_⨾_}
-use Rattle.wire.specs.Shares.{exceeds}
+use Rattle.wire.specs.Shares.{_exceeds_}
 use Rattle.table.specs.Counts.{openShares, cut, executing, selfMatching}
 use Rattle.table.specs.Order.{isLive, withShares}
 use Rattle.table.specs.Header.{isOpenDay}
@@ -12,7 +12,7 @@ use Rattle.market.specs.Types.{Canceled, Executed, AiqCancelled, Decisio
 
 -- shares 0 or above open
 unfoldable pub sharesWrong : Order → Removed → Bool
-sharesWrong o shares = eqb (shares .0) 0 || exceeds (shares .0) (openShares (o .shares))
+sharesWrong o shares = eqb (shares .0) 0 || shares exceeds openShares (o .shares)
 
 -- Executed, executed grows
 unfoldable pub executionRule : Header → Order → Execution → Decision

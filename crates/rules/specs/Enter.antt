@@ -8,7 +8,7 @@ use Rattle.wire.specs.Letters.{live, closed, firmNotListed, invalidStock, notIn
 use Rattle.wire.specs.Limits.{tokenSize}
 use Rattle.wire.specs.Text.{shaped}
 use Rattle.wire.specs.Price.{goodPrice}
-use Rattle.wire.specs.Shares.{total, exceeds, _less_, _isBelow_, _equals_}
+use Rattle.wire.specs.Shares.{total, removed, _exceeds_, _less_, _isBelow_, _equals_}
 use Rattle.table.specs.Counts.{newCounts}
 use Rattle.table.specs.Order.{isUsed}
 use Rattle.table.specs.Header.{isOpenDay, meantFirm, isListed}
@@ -32,7 +32,7 @@ badShares h shares = (shares equals total 0) || not (shares isBelow h .threshold
 
 -- N: minimum above 0 with time in force not 0, or above shares
 unfoldable pub badMinimum : ℕ → ℕ → Removed → Bool
-badMinimum minimum time shares = (ltb 0 minimum && not (eqb time immediate)) || exceeds minimum shares
+badMinimum minimum time shares = (ltb 0 minimum && not (eqb time immediate)) || removed minimum exceeds shares
 
 -- ---- the fault of an O: the first that applies
 

@@ -44,5 +44,8 @@ infixl 60 _cutBy_
 abbrev pub _cutBy_ : Total → Removed → Total
 a cutBy d = total (a .0 - d .0)
 
-abbrev pub exceeds : ℕ → Removed → Bool
-exceeds n d = ltb (d .0) n
+-- ---- removed and removed
+
+infix 50 _exceeds_
+abbrev pub _exceeds_ : Removed → Removed → Bool
+a exceeds b = ltb (b .0) (a .0)

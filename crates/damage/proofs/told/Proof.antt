@@ -1,16 +1,11 @@
 -- A sound table holds its used records, so find may be asked.
+use Rattle.octets.proofs.Needs.{unasked}
 use mathlib.Core.Path.{sym, _∙_}
 use native.Mathlib.Omega.{arith}
 use Rattle.table.proofs.Soundness.{of-sound, sound-fit}
 use borrow.Author.Needs.{needs}
 use Rattle.damage.proofs.told.Statement.{statement}
 use Rattle.damage.proofs.told.Tie as tie
-
-sound-requires : tie.Need-sound-requires
-sound-requires c κs = search needs
-
-token-requires : tie.Need-token-requires
-token-requires c κs = search needs
 
 find-requires : tie.Need-find-requires
 find-requires c κs = sound-fit _ (of-sound _ (sym (c .before .before .sound .ensures) ∙ c .before .if1 .taken))
@@ -28,13 +23,4 @@ returns-3 : tie.Need-returns-3
 returns-3 c = search needs
 
 pub told-spec : {M : Type 1} → statement M
-told-spec =
-    tie.close
-    (tie.spec
-    sound-requires
-    token-requires
-    find-requires
-    used-requires
-    returns
-    returns-2
-    returns-3)
+told-spec = tie.close (tie.spec unasked (search needs) find-requires used-requires returns returns-2 returns-3)

@@ -10,25 +10,8 @@ Inv-loop k₀ k = k ≤ 16
 abbrev μ-loop : tie.MeasureT-loop
 μ-loop k₀ k = 16 - k
 
-loop-holds : tie.Need-loop-holds Inv-loop μ-loop
-loop-holds c = search needs
-
-line-requires : tie.Need-line-requires Inv-loop μ-loop
-line-requires c κs = search needs
-
-add-k : tie.Need-add-k Inv-loop μ-loop
-add-k c = search needs
-
-loop-less : tie.Need-loop-less Inv-loop μ-loop
-loop-less c = search needs
-
-loop-again : tie.Need-loop-again Inv-loop μ-loop
-loop-again c = search needs
-
 returns : tie.Need-returns Inv-loop μ-loop
 returns c = search needs
 
 pub main-spec : {M : Type 1} → statement M
-main-spec =
-    tie.close
-    (tie.spec Inv-loop μ-loop loop-holds line-requires add-k loop-less loop-again returns)
+main-spec = tie.close (tie.spec Inv-loop μ-loop (search needs) (search needs) (search needs) (search needs) (search needs) returns)

@@ -1,15 +1,12 @@
 -- The run's length, from what the run is. Assumes nothing.
+use Rattle.octets.proofs.Needs.{unasked}
 use mathlib.Core.Path.{ap}
 use lib.ListN.{length}
-use borrow.Author.Needs.{needs}
 use Rattle.port.proofs.pq_read.Statement.{statement}
 use Rattle.port.proofs.pq_read.Tie as tie
-
-read-requires : tie.Need-read-requires
-read-requires c κs = search needs
 
 returns : tie.Need-returns
 returns c = ap length (c .read .ensures .0)
 
 pub pq-read-spec : {M : Type 1} → statement M
-pq-read-spec = tie.close (tie.spec read-requires returns)
+pq-read-spec = tie.close (tie.spec unasked returns)

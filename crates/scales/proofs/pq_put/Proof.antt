@@ -1,4 +1,5 @@
 -- The number of the put's answer, and the put's ring. Assumes nothing.
+use Rattle.octets.proofs.Needs.{unasked}
 use mathlib.Core.Path.{ap, _∙_}
 use borrow.Author.Needs.{needs}
 use Rattle.answers.specs.Answer.{answerNumber}
@@ -6,18 +7,9 @@ use Rattle.outbox.specs.declared.marks.Moved.{Moved}
 use Rattle.scales.proofs.pq_put.Statement.{statement}
 use Rattle.scales.proofs.pq_put.Tie as tie
 
-put-requires : tie.Need-put-requires
-put-requires c κs = search needs
-
-number-requires : tie.Need-number-requires
-number-requires c κs = search needs
-
-same-length : tie.Need-same-length
-same-length c = search needs
-
 returns : tie.Need-returns
 returns c = let done = c .before .before .before .put .ensures in
     (c .number .ensures ∙ ap (λ (m : Moved). answerNumber (m .answer)) (done .0), done .1)
 
 pub pq-put-spec : {M : Type 1} → statement M
-pq-put-spec = tie.close (tie.spec put-requires number-requires same-length returns)
+pq-put-spec = tie.close (tie.spec unasked unasked (search needs) returns)

@@ -1,13 +1,10 @@
 -- A test of what `sound` answers. Assumes nothing.
+use Rattle.octets.proofs.Needs.{unasked}
 use mathlib.Core.Path.{sym, ap, _∙_}
 use mathlib.Core.Bool.{Bool}
-use borrow.Author.Needs.{needs}
 use Rattle.octets.specs.Choice.{pick}
 use Rattle.scales.proofs.pq_sound.Statement.{statement}
 use Rattle.scales.proofs.pq_sound.Tie as tie
-
-sound-requires : tie.Need-sound-requires
-sound-requires c κs = search needs
 
 returns : tie.Need-returns
 returns c = sym (ap (λ (b : Bool). pick b 1 0) (sym (c .before .sound .ensures) ∙ c .if1 .taken))
@@ -16,4 +13,4 @@ returns-2 : tie.Need-returns-2
 returns-2 c = sym (ap (λ (b : Bool). pick b 1 0) (sym (c .before .sound .ensures) ∙ c .if1 .left))
 
 pub pq-sound-spec : {M : Type 1} → statement M
-pq-sound-spec = tie.close (tie.spec sound-requires returns returns-2)
+pq-sound-spec = tie.close (tie.spec unasked returns returns-2)

@@ -1,4 +1,5 @@
 -- What was read is written back, by the law for all messages. Assumes nothing.
+use Rattle.octets.proofs.Needs.{unasked}
 use mathlib.Core.Path.{ap}
 use borrow.Author.Needs.{needs}
 use Rattle.wire.specs.Messages.{cancelOrder}
@@ -8,18 +9,6 @@ use Rattle.inbound.proofs.Faithful.{cancel-order-faithful}
 use Rattle.echo.proofs.Back.{back, turned-away}
 use Rattle.echo.proofs.from_client.echo_cancel_order.Statement.{statement}
 use Rattle.echo.proofs.from_client.echo_cancel_order.Tie as tie
-
-read-cancel-order-requires : tie.Need-read-cancel-order-requires
-read-cancel-order-requires c κs = search needs
-
-number-requires : tie.Need-number-requires
-number-requires c κs = search needs
-
-write-cancel-order-requires : tie.Need-write-cancel-order-requires
-write-cancel-order-requires c κs = search needs
-
-same-length : tie.Need-same-length
-same-length c = search needs
 
 returns : tie.Need-returns
 unfolding readCancelOrder
@@ -34,5 +23,4 @@ returns-2 c =
     turned-away cancelOrder _ _ (ap (λ (x : CancelOrderRead). x .answer) (c .before .before .read-cancel-order .ensures)) (c .before .number .ensures) (c .if1 .left)
 
 pub echo-cancel-order-spec : {M : Type 1} → statement M
-echo-cancel-order-spec =
-    tie.close (tie.spec read-cancel-order-requires number-requires write-cancel-order-requires same-length returns returns-2)
+echo-cancel-order-spec = tie.close (tie.spec unasked unasked unasked (search needs) returns returns-2)

@@ -1,4 +1,5 @@
 -- What was read is written back, by the law for all messages. Assumes nothing.
+use Rattle.octets.proofs.Needs.{unasked}
 use mathlib.Core.Path.{ap}
 use borrow.Author.Needs.{needs}
 use Rattle.wire.specs.Messages.{enterOrder}
@@ -8,18 +9,6 @@ use Rattle.inbound.proofs.Faithful.{enter-order-faithful}
 use Rattle.echo.proofs.Back.{back, turned-away}
 use Rattle.echo.proofs.from_client.echo_enter_order.Statement.{statement}
 use Rattle.echo.proofs.from_client.echo_enter_order.Tie as tie
-
-read-enter-order-requires : tie.Need-read-enter-order-requires
-read-enter-order-requires c κs = search needs
-
-number-requires : tie.Need-number-requires
-number-requires c κs = search needs
-
-write-enter-order-requires : tie.Need-write-enter-order-requires
-write-enter-order-requires c κs = search needs
-
-same-length : tie.Need-same-length
-same-length c = search needs
 
 returns : tie.Need-returns
 unfolding readEnterOrder
@@ -34,5 +23,4 @@ returns-2 c =
     turned-away enterOrder _ _ (ap (λ (x : EnterOrderRead). x .answer) (c .before .before .read-enter-order .ensures)) (c .before .number .ensures) (c .if1 .left)
 
 pub echo-enter-order-spec : {M : Type 1} → statement M
-echo-enter-order-spec =
-    tie.close (tie.spec read-enter-order-requires number-requires write-enter-order-requires same-length returns returns-2)
+echo-enter-order-spec = tie.close (tie.spec unasked unasked unasked (search needs) returns returns-2)

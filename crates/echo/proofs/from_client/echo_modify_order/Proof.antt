@@ -1,4 +1,5 @@
 -- What was read is written back, by the law for all messages. Assumes nothing.
+use Rattle.octets.proofs.Needs.{unasked}
 use mathlib.Core.Path.{ap}
 use borrow.Author.Needs.{needs}
 use Rattle.wire.specs.Messages.{modifyOrder}
@@ -8,18 +9,6 @@ use Rattle.inbound.proofs.Faithful.{modify-order-faithful}
 use Rattle.echo.proofs.Back.{back, turned-away}
 use Rattle.echo.proofs.from_client.echo_modify_order.Statement.{statement}
 use Rattle.echo.proofs.from_client.echo_modify_order.Tie as tie
-
-read-modify-order-requires : tie.Need-read-modify-order-requires
-read-modify-order-requires c κs = search needs
-
-number-requires : tie.Need-number-requires
-number-requires c κs = search needs
-
-write-modify-order-requires : tie.Need-write-modify-order-requires
-write-modify-order-requires c κs = search needs
-
-same-length : tie.Need-same-length
-same-length c = search needs
 
 returns : tie.Need-returns
 unfolding readModifyOrder
@@ -34,5 +23,4 @@ returns-2 c =
     turned-away modifyOrder _ _ (ap (λ (x : ModifyOrderRead). x .answer) (c .before .before .read-modify-order .ensures)) (c .before .number .ensures) (c .if1 .left)
 
 pub echo-modify-order-spec : {M : Type 1} → statement M
-echo-modify-order-spec =
-    tie.close (tie.spec read-modify-order-requires number-requires write-modify-order-requires same-length returns returns-2)
+echo-modify-order-spec = tie.close (tie.spec unasked unasked unasked (search needs) returns returns-2)

@@ -1,4 +1,5 @@
 -- What was read is written back, by the law for all messages. Assumes nothing.
+use Rattle.octets.proofs.Needs.{unasked}
 use mathlib.Core.Path.{ap}
 use borrow.Author.Needs.{needs}
 use Rattle.wire.specs.Messages.{replaceOrder}
@@ -8,18 +9,6 @@ use Rattle.inbound.proofs.Faithful.{replace-order-faithful}
 use Rattle.echo.proofs.Back.{back, turned-away}
 use Rattle.echo.proofs.from_client.echo_replace_order.Statement.{statement}
 use Rattle.echo.proofs.from_client.echo_replace_order.Tie as tie
-
-read-replace-order-requires : tie.Need-read-replace-order-requires
-read-replace-order-requires c κs = search needs
-
-number-requires : tie.Need-number-requires
-number-requires c κs = search needs
-
-write-replace-order-requires : tie.Need-write-replace-order-requires
-write-replace-order-requires c κs = search needs
-
-same-length : tie.Need-same-length
-same-length c = search needs
 
 returns : tie.Need-returns
 unfolding readReplaceOrder
@@ -34,5 +23,4 @@ returns-2 c =
     turned-away replaceOrder _ _ (ap (λ (x : ReplaceOrderRead). x .answer) (c .before .before .read-replace-order .ensures)) (c .before .number .ensures) (c .if1 .left)
 
 pub echo-replace-order-spec : {M : Type 1} → statement M
-echo-replace-order-spec =
-    tie.close (tie.spec read-replace-order-requires number-requires write-replace-order-requires same-length returns returns-2)
+echo-replace-order-spec = tie.close (tie.spec unasked unasked unasked (search needs) returns returns-2)

@@ -1,4 +1,5 @@
 -- What was read is written back, by the law for all messages. Assumes nothing.
+use Rattle.octets.proofs.Needs.{unasked}
 use mathlib.Core.Path.{ap}
 use borrow.Author.Needs.{needs}
 use Rattle.wire.specs.Messages.{accepted}
@@ -8,18 +9,6 @@ use Rattle.outbound.proofs.Faithful.{accepted-faithful}
 use Rattle.echo.proofs.Back.{back, turned-away}
 use Rattle.echo.proofs.from_host.echo_accepted.Statement.{statement}
 use Rattle.echo.proofs.from_host.echo_accepted.Tie as tie
-
-read-accepted-requires : tie.Need-read-accepted-requires
-read-accepted-requires c κs = search needs
-
-number-requires : tie.Need-number-requires
-number-requires c κs = search needs
-
-write-accepted-requires : tie.Need-write-accepted-requires
-write-accepted-requires c κs = search needs
-
-same-length : tie.Need-same-length
-same-length c = search needs
 
 returns : tie.Need-returns
 unfolding readAccepted
@@ -34,5 +23,4 @@ returns-2 c =
     turned-away accepted _ _ (ap (λ (x : AcceptedRead). x .answer) (c .before .before .read-accepted .ensures)) (c .before .number .ensures) (c .if1 .left)
 
 pub echo-accepted-spec : {M : Type 1} → statement M
-echo-accepted-spec =
-    tie.close (tie.spec read-accepted-requires number-requires write-accepted-requires same-length returns returns-2)
+echo-accepted-spec = tie.close (tie.spec unasked unasked unasked (search needs) returns returns-2)

@@ -1,4 +1,5 @@
 -- What was read is written back, by the law for all messages. Assumes nothing.
+use Rattle.octets.proofs.Needs.{unasked}
 use mathlib.Core.Path.{ap}
 use borrow.Author.Needs.{needs}
 use Rattle.wire.specs.Messages.{aiqCancelled}
@@ -8,18 +9,6 @@ use Rattle.outbound.proofs.Faithful.{aiq-cancelled-faithful}
 use Rattle.echo.proofs.Back.{back, turned-away}
 use Rattle.echo.proofs.from_host.echo_aiq_cancelled.Statement.{statement}
 use Rattle.echo.proofs.from_host.echo_aiq_cancelled.Tie as tie
-
-read-aiq-cancelled-requires : tie.Need-read-aiq-cancelled-requires
-read-aiq-cancelled-requires c κs = search needs
-
-number-requires : tie.Need-number-requires
-number-requires c κs = search needs
-
-write-aiq-cancelled-requires : tie.Need-write-aiq-cancelled-requires
-write-aiq-cancelled-requires c κs = search needs
-
-same-length : tie.Need-same-length
-same-length c = search needs
 
 returns : tie.Need-returns
 unfolding readAiqCancelled
@@ -34,5 +23,4 @@ returns-2 c =
     turned-away aiqCancelled _ _ (ap (λ (x : AiqCancelledRead). x .answer) (c .before .before .read-aiq-cancelled .ensures)) (c .before .number .ensures) (c .if1 .left)
 
 pub echo-aiq-cancelled-spec : {M : Type 1} → statement M
-echo-aiq-cancelled-spec =
-    tie.close (tie.spec read-aiq-cancelled-requires number-requires write-aiq-cancelled-requires same-length returns returns-2)
+echo-aiq-cancelled-spec = tie.close (tie.spec unasked unasked unasked (search needs) returns returns-2)

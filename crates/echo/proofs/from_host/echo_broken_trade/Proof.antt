@@ -1,4 +1,5 @@
 -- What was read is written back, by the law for all messages. Assumes nothing.
+use Rattle.octets.proofs.Needs.{unasked}
 use mathlib.Core.Path.{ap}
 use borrow.Author.Needs.{needs}
 use Rattle.wire.specs.Messages.{brokenTrade}
@@ -8,18 +9,6 @@ use Rattle.outbound.proofs.Faithful.{broken-trade-faithful}
 use Rattle.echo.proofs.Back.{back, turned-away}
 use Rattle.echo.proofs.from_host.echo_broken_trade.Statement.{statement}
 use Rattle.echo.proofs.from_host.echo_broken_trade.Tie as tie
-
-read-broken-trade-requires : tie.Need-read-broken-trade-requires
-read-broken-trade-requires c κs = search needs
-
-number-requires : tie.Need-number-requires
-number-requires c κs = search needs
-
-write-broken-trade-requires : tie.Need-write-broken-trade-requires
-write-broken-trade-requires c κs = search needs
-
-same-length : tie.Need-same-length
-same-length c = search needs
 
 returns : tie.Need-returns
 unfolding readBrokenTrade
@@ -34,5 +23,4 @@ returns-2 c =
     turned-away brokenTrade _ _ (ap (λ (x : BrokenTradeRead). x .answer) (c .before .before .read-broken-trade .ensures)) (c .before .number .ensures) (c .if1 .left)
 
 pub echo-broken-trade-spec : {M : Type 1} → statement M
-echo-broken-trade-spec =
-    tie.close (tie.spec read-broken-trade-requires number-requires write-broken-trade-requires same-length returns returns-2)
+echo-broken-trade-spec = tie.close (tie.spec unasked unasked unasked (search needs) returns returns-2)

@@ -1,4 +1,5 @@
 -- What was read is written back, by the law for all messages. Assumes nothing.
+use Rattle.octets.proofs.Needs.{unasked}
 use mathlib.Core.Path.{ap}
 use borrow.Author.Needs.{needs}
 use Rattle.wire.specs.Messages.{cancelPending}
@@ -8,18 +9,6 @@ use Rattle.outbound.proofs.Faithful.{cancel-pending-faithful}
 use Rattle.echo.proofs.Back.{back, turned-away}
 use Rattle.echo.proofs.from_host.echo_cancel_pending.Statement.{statement}
 use Rattle.echo.proofs.from_host.echo_cancel_pending.Tie as tie
-
-read-cancel-pending-requires : tie.Need-read-cancel-pending-requires
-read-cancel-pending-requires c κs = search needs
-
-number-requires : tie.Need-number-requires
-number-requires c κs = search needs
-
-write-cancel-pending-requires : tie.Need-write-cancel-pending-requires
-write-cancel-pending-requires c κs = search needs
-
-same-length : tie.Need-same-length
-same-length c = search needs
 
 returns : tie.Need-returns
 unfolding readCancelPending
@@ -34,5 +23,4 @@ returns-2 c =
     turned-away cancelPending _ _ (ap (λ (x : CancelPendingRead). x .answer) (c .before .before .read-cancel-pending .ensures)) (c .before .number .ensures) (c .if1 .left)
 
 pub echo-cancel-pending-spec : {M : Type 1} → statement M
-echo-cancel-pending-spec =
-    tie.close (tie.spec read-cancel-pending-requires number-requires write-cancel-pending-requires same-length returns returns-2)
+echo-cancel-pending-spec = tie.close (tie.spec unasked unasked unasked (search needs) returns returns-2)

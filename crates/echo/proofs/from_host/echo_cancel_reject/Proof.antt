@@ -1,4 +1,5 @@
 -- What was read is written back, by the law for all messages. Assumes nothing.
+use Rattle.octets.proofs.Needs.{unasked}
 use mathlib.Core.Path.{ap}
 use borrow.Author.Needs.{needs}
 use Rattle.wire.specs.Messages.{cancelReject}
@@ -8,18 +9,6 @@ use Rattle.outbound.proofs.Faithful.{cancel-reject-faithful}
 use Rattle.echo.proofs.Back.{back, turned-away}
 use Rattle.echo.proofs.from_host.echo_cancel_reject.Statement.{statement}
 use Rattle.echo.proofs.from_host.echo_cancel_reject.Tie as tie
-
-read-cancel-reject-requires : tie.Need-read-cancel-reject-requires
-read-cancel-reject-requires c κs = search needs
-
-number-requires : tie.Need-number-requires
-number-requires c κs = search needs
-
-write-cancel-reject-requires : tie.Need-write-cancel-reject-requires
-write-cancel-reject-requires c κs = search needs
-
-same-length : tie.Need-same-length
-same-length c = search needs
 
 returns : tie.Need-returns
 unfolding readCancelReject
@@ -34,5 +23,4 @@ returns-2 c =
     turned-away cancelReject _ _ (ap (λ (x : CancelRejectRead). x .answer) (c .before .before .read-cancel-reject .ensures)) (c .before .number .ensures) (c .if1 .left)
 
 pub echo-cancel-reject-spec : {M : Type 1} → statement M
-echo-cancel-reject-spec =
-    tie.close (tie.spec read-cancel-reject-requires number-requires write-cancel-reject-requires same-length returns returns-2)
+echo-cancel-reject-spec = tie.close (tie.spec unasked unasked unasked (search needs) returns returns-2)

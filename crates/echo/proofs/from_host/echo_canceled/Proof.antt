@@ -1,4 +1,5 @@
 -- What was read is written back, by the law for all messages. Assumes nothing.
+use Rattle.octets.proofs.Needs.{unasked}
 use mathlib.Core.Path.{ap}
 use borrow.Author.Needs.{needs}
 use Rattle.wire.specs.Messages.{canceled}
@@ -8,18 +9,6 @@ use Rattle.outbound.proofs.Faithful.{canceled-faithful}
 use Rattle.echo.proofs.Back.{back, turned-away}
 use Rattle.echo.proofs.from_host.echo_canceled.Statement.{statement}
 use Rattle.echo.proofs.from_host.echo_canceled.Tie as tie
-
-read-canceled-requires : tie.Need-read-canceled-requires
-read-canceled-requires c κs = search needs
-
-number-requires : tie.Need-number-requires
-number-requires c κs = search needs
-
-write-canceled-requires : tie.Need-write-canceled-requires
-write-canceled-requires c κs = search needs
-
-same-length : tie.Need-same-length
-same-length c = search needs
 
 returns : tie.Need-returns
 unfolding readCanceled
@@ -34,5 +23,4 @@ returns-2 c =
     turned-away canceled _ _ (ap (λ (x : CanceledRead). x .answer) (c .before .before .read-canceled .ensures)) (c .before .number .ensures) (c .if1 .left)
 
 pub echo-canceled-spec : {M : Type 1} → statement M
-echo-canceled-spec =
-    tie.close (tie.spec read-canceled-requires number-requires write-canceled-requires same-length returns returns-2)
+echo-canceled-spec = tie.close (tie.spec unasked unasked unasked (search needs) returns returns-2)

@@ -1,4 +1,5 @@
 -- What was read is written back, by the law for all messages. Assumes nothing.
+use Rattle.octets.proofs.Needs.{unasked}
 use mathlib.Core.Path.{ap}
 use borrow.Author.Needs.{needs}
 use Rattle.wire.specs.Messages.{executed}
@@ -8,18 +9,6 @@ use Rattle.outbound.proofs.Faithful.{executed-faithful}
 use Rattle.echo.proofs.Back.{back, turned-away}
 use Rattle.echo.proofs.from_host.echo_executed.Statement.{statement}
 use Rattle.echo.proofs.from_host.echo_executed.Tie as tie
-
-read-executed-requires : tie.Need-read-executed-requires
-read-executed-requires c κs = search needs
-
-number-requires : tie.Need-number-requires
-number-requires c κs = search needs
-
-write-executed-requires : tie.Need-write-executed-requires
-write-executed-requires c κs = search needs
-
-same-length : tie.Need-same-length
-same-length c = search needs
 
 returns : tie.Need-returns
 unfolding readExecuted
@@ -34,5 +23,4 @@ returns-2 c =
     turned-away executed _ _ (ap (λ (x : ExecutedRead). x .answer) (c .before .before .read-executed .ensures)) (c .before .number .ensures) (c .if1 .left)
 
 pub echo-executed-spec : {M : Type 1} → statement M
-echo-executed-spec =
-    tie.close (tie.spec read-executed-requires number-requires write-executed-requires same-length returns returns-2)
+echo-executed-spec = tie.close (tie.spec unasked unasked unasked (search needs) returns returns-2)

@@ -1,4 +1,5 @@
 -- What was read is written back, by the law for all messages. Assumes nothing.
+use Rattle.octets.proofs.Needs.{unasked}
 use mathlib.Core.Path.{ap}
 use borrow.Author.Needs.{needs}
 use Rattle.wire.specs.Messages.{modified}
@@ -8,18 +9,6 @@ use Rattle.outbound.proofs.Faithful.{modified-faithful}
 use Rattle.echo.proofs.Back.{back, turned-away}
 use Rattle.echo.proofs.from_host.echo_modified.Statement.{statement}
 use Rattle.echo.proofs.from_host.echo_modified.Tie as tie
-
-read-modified-requires : tie.Need-read-modified-requires
-read-modified-requires c κs = search needs
-
-number-requires : tie.Need-number-requires
-number-requires c κs = search needs
-
-write-modified-requires : tie.Need-write-modified-requires
-write-modified-requires c κs = search needs
-
-same-length : tie.Need-same-length
-same-length c = search needs
 
 returns : tie.Need-returns
 unfolding readModified
@@ -34,5 +23,4 @@ returns-2 c =
     turned-away modified _ _ (ap (λ (x : ModifiedRead). x .answer) (c .before .before .read-modified .ensures)) (c .before .number .ensures) (c .if1 .left)
 
 pub echo-modified-spec : {M : Type 1} → statement M
-echo-modified-spec =
-    tie.close (tie.spec read-modified-requires number-requires write-modified-requires same-length returns returns-2)
+echo-modified-spec = tie.close (tie.spec unasked unasked unasked (search needs) returns returns-2)

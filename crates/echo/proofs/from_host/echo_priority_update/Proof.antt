@@ -1,4 +1,5 @@
 -- What was read is written back, by the law for all messages. Assumes nothing.
+use Rattle.octets.proofs.Needs.{unasked}
 use mathlib.Core.Path.{ap}
 use borrow.Author.Needs.{needs}
 use Rattle.wire.specs.Messages.{priorityUpdate}
@@ -8,18 +9,6 @@ use Rattle.outbound.proofs.Faithful.{priority-update-faithful}
 use Rattle.echo.proofs.Back.{back, turned-away}
 use Rattle.echo.proofs.from_host.echo_priority_update.Statement.{statement}
 use Rattle.echo.proofs.from_host.echo_priority_update.Tie as tie
-
-read-priority-update-requires : tie.Need-read-priority-update-requires
-read-priority-update-requires c κs = search needs
-
-number-requires : tie.Need-number-requires
-number-requires c κs = search needs
-
-write-priority-update-requires : tie.Need-write-priority-update-requires
-write-priority-update-requires c κs = search needs
-
-same-length : tie.Need-same-length
-same-length c = search needs
 
 returns : tie.Need-returns
 unfolding readPriorityUpdate
@@ -34,5 +23,4 @@ returns-2 c =
     turned-away priorityUpdate _ _ (ap (λ (x : PriorityUpdateRead). x .answer) (c .before .before .read-priority-update .ensures)) (c .before .number .ensures) (c .if1 .left)
 
 pub echo-priority-update-spec : {M : Type 1} → statement M
-echo-priority-update-spec =
-    tie.close (tie.spec read-priority-update-requires number-requires write-priority-update-requires same-length returns returns-2)
+echo-priority-update-spec = tie.close (tie.spec unasked unasked unasked (search needs) returns returns-2)

@@ -1,4 +1,5 @@
 -- What was read is written back, by the law for all messages. Assumes nothing.
+use Rattle.octets.proofs.Needs.{unasked}
 use mathlib.Core.Path.{ap}
 use borrow.Author.Needs.{needs}
 use Rattle.wire.specs.Messages.{rejected}
@@ -8,18 +9,6 @@ use Rattle.outbound.proofs.Faithful.{rejected-faithful}
 use Rattle.echo.proofs.Back.{back, turned-away}
 use Rattle.echo.proofs.from_host.echo_rejected.Statement.{statement}
 use Rattle.echo.proofs.from_host.echo_rejected.Tie as tie
-
-read-rejected-requires : tie.Need-read-rejected-requires
-read-rejected-requires c κs = search needs
-
-number-requires : tie.Need-number-requires
-number-requires c κs = search needs
-
-write-rejected-requires : tie.Need-write-rejected-requires
-write-rejected-requires c κs = search needs
-
-same-length : tie.Need-same-length
-same-length c = search needs
 
 returns : tie.Need-returns
 unfolding readRejected
@@ -34,5 +23,4 @@ returns-2 c =
     turned-away rejected _ _ (ap (λ (x : RejectedRead). x .answer) (c .before .before .read-rejected .ensures)) (c .before .number .ensures) (c .if1 .left)
 
 pub echo-rejected-spec : {M : Type 1} → statement M
-echo-rejected-spec =
-    tie.close (tie.spec read-rejected-requires number-requires write-rejected-requires same-length returns returns-2)
+echo-rejected-spec = tie.close (tie.spec unasked unasked unasked (search needs) returns returns-2)

@@ -1,4 +1,5 @@
 -- What was read is written back, by the law for all messages. Assumes nothing.
+use Rattle.octets.proofs.Needs.{unasked}
 use mathlib.Core.Path.{ap}
 use borrow.Author.Needs.{needs}
 use Rattle.wire.specs.Messages.{replaced}
@@ -8,18 +9,6 @@ use Rattle.outbound.proofs.Faithful.{replaced-faithful}
 use Rattle.echo.proofs.Back.{back, turned-away}
 use Rattle.echo.proofs.from_host.echo_replaced.Statement.{statement}
 use Rattle.echo.proofs.from_host.echo_replaced.Tie as tie
-
-read-replaced-requires : tie.Need-read-replaced-requires
-read-replaced-requires c κs = search needs
-
-number-requires : tie.Need-number-requires
-number-requires c κs = search needs
-
-write-replaced-requires : tie.Need-write-replaced-requires
-write-replaced-requires c κs = search needs
-
-same-length : tie.Need-same-length
-same-length c = search needs
 
 returns : tie.Need-returns
 unfolding readReplaced
@@ -34,5 +23,4 @@ returns-2 c =
     turned-away replaced _ _ (ap (λ (x : ReplacedRead). x .answer) (c .before .before .read-replaced .ensures)) (c .before .number .ensures) (c .if1 .left)
 
 pub echo-replaced-spec : {M : Type 1} → statement M
-echo-replaced-spec =
-    tie.close (tie.spec read-replaced-requires number-requires write-replaced-requires same-length returns returns-2)
+echo-replaced-spec = tie.close (tie.spec unasked unasked unasked (search needs) returns returns-2)

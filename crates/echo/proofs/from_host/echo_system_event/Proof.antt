@@ -1,4 +1,5 @@
 -- What was read is written back, by the law for all messages. Assumes nothing.
+use Rattle.octets.proofs.Needs.{unasked}
 use mathlib.Core.Path.{ap}
 use borrow.Author.Needs.{needs}
 use Rattle.wire.specs.Messages.{systemEvent}
@@ -8,18 +9,6 @@ use Rattle.outbound.proofs.Faithful.{system-event-faithful}
 use Rattle.echo.proofs.Back.{back, turned-away}
 use Rattle.echo.proofs.from_host.echo_system_event.Statement.{statement}
 use Rattle.echo.proofs.from_host.echo_system_event.Tie as tie
-
-read-system-event-requires : tie.Need-read-system-event-requires
-read-system-event-requires c κs = search needs
-
-number-requires : tie.Need-number-requires
-number-requires c κs = search needs
-
-write-system-event-requires : tie.Need-write-system-event-requires
-write-system-event-requires c κs = search needs
-
-same-length : tie.Need-same-length
-same-length c = search needs
 
 returns : tie.Need-returns
 unfolding readSystemEvent
@@ -34,5 +23,4 @@ returns-2 c =
     turned-away systemEvent _ _ (ap (λ (x : SystemEventRead). x .answer) (c .before .before .read-system-event .ensures)) (c .before .number .ensures) (c .if1 .left)
 
 pub echo-system-event-spec : {M : Type 1} → statement M
-echo-system-event-spec =
-    tie.close (tie.spec read-system-event-requires number-requires write-system-event-requires same-length returns returns-2)
+echo-system-event-spec = tie.close (tie.spec unasked unasked unasked (search needs) returns returns-2)

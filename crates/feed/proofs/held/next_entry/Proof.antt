@@ -1,4 +1,5 @@
 -- What stands at the front is told by the cut, and a whole entry ends within the bytes. Assumes nothing.
+use Rattle.octets.proofs.Needs.{unasked}
 use Prim.Native.Nat.{_≤_}
 use mathlib.Core.Path.{sym, ap, _∙_}
 use native.Mathlib.Omega.{arith}
@@ -11,12 +12,6 @@ use Rattle.feed.proofs.Fronts.{whole-within}
 use Rattle.feed.proofs.held.next_entry.Statement.{statement}
 use Rattle.feed.proofs.held.next_entry.Tie as tie
 
-cut-at-requires : tie.Need-cut-at-requires
-cut-at-requires c κs = search needs
-
-enum-known-end : tie.Need-enum-known-end
-enum-known-end c = search needs
-
 slice-aggregate-result : tie.Need-slice-aggregate-result
 slice-aggregate-result c =
     let s = c .before .before .before .before .before .before .args .bytes .now in
@@ -26,12 +21,6 @@ slice-aggregate-result c =
 
 enum-told : tie.Need-enum-told
 enum-told c = search needs
-
-enum-told-2 : tie.Need-enum-told-2
-enum-told-2 c = search needs
-
-enum-told-3 : tie.Need-enum-told-3
-enum-told-3 c = search needs
 
 returns : tie.Need-returns
 unfolding nextEntry
@@ -53,14 +42,4 @@ returns-4 c = sym (ap (λ (k : Cut). frontOf k (c .before .before .before .befor
 pub next-entry-spec : {M : Type 1} → statement M
 next-entry-spec =
     tie.close
-    (tie.spec
-    cut-at-requires
-    enum-known-end
-    slice-aggregate-result
-    enum-told
-    enum-told-2
-    enum-told-3
-    returns
-    returns-2
-    returns-3
-    returns-4)
+    (tie.spec unasked (search needs) slice-aggregate-result enum-told (search needs) (search needs) returns returns-2 returns-3 returns-4)

@@ -5,9 +5,6 @@ use Rattle.feed.specs.Feed.{past}
 use Rattle.feed.proofs.held.past.Statement.{statement}
 use Rattle.feed.proofs.held.past.Tie as tie
 
-add-t8 : tie.Need-add-t8
-add-t8 c = search needs
-
 returns : tie.Need-returns
 unfolding past
 returns c = simp (le-leb _ _ (c .before .if1 .taken), le-leb _ _ (c .if2 .taken))
@@ -21,4 +18,4 @@ unfolding past
 returns-3 c = simp (lt-leb _ _ (c .if1 .left))
 
 pub past-spec : {M : Type 1} → statement M
-past-spec = tie.close (tie.spec add-t8 returns returns-2 returns-3)
+past-spec = tie.close (tie.spec (search needs) returns returns-2 returns-3)

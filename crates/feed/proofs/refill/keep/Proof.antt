@@ -15,16 +15,10 @@ returns-2 : tie.Need-returns-2
 unfolding unread
 returns-2 c = (simp (le-leb _ _ (c .before .if1 .left), lt-leb _ _ (c .if2 .taken)), omega arith)
 
-slide-requires : tie.Need-slide-requires
-slide-requires c κs = search needs
-
-same-length : tie.Need-same-length
-same-length c = search needs
-
 returns-3 : tie.Need-returns-3
 unfolding unread
 returns-3 c = let t = c .before .before .before .before in
     (simp (le-leb _ _ (t .before .if1 .left), le-leb _ _ (t .if2 .left)) (c .before .before .slide .ensures .0), omega (arith, c .before .before .slide .ensures .1))
 
 pub keep-spec : {M : Type 1} → statement M
-keep-spec = tie.close (tie.spec returns returns-2 slide-requires same-length returns-3)
+keep-spec = tie.close (tie.spec returns returns-2 (λ c κs. search needs) (search needs) returns-3)

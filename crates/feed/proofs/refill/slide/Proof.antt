@@ -49,15 +49,4 @@ returns c =
 pub slide-spec : {M : Type 1} → statement M
 slide-spec =
     tie.close
-    (tie.spec
-    Inv-loop
-    μ-loop
-    loop-holds
-    add-buffer
-    slice-read-buffer
-    slice-write-buffer
-    add-i
-    loop-less
-    loop-again
-    same-length
-    returns)
+    (tie.spec Inv-loop μ-loop loop-holds add-buffer slice-read-buffer slice-write-buffer add-i loop-less loop-again same-length returns)

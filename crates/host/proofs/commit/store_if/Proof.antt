@@ -1,19 +1,14 @@
 -- Stored where there is an order, and nothing written where there is none. Assumes nothing.
+use Rattle.octets.proofs.Needs.{unasked}
 use mathlib.Core.Path.{sym, _∙_}
 use Rattle.host.specs.Step.{storeIf}
 use borrow.Author.Needs.{needs}
 use Rattle.host.proofs.commit.store_if.Statement.{statement}
 use Rattle.host.proofs.commit.store_if.Tie as tie
 
-is-used-requires : tie.Need-is-used-requires
-is-used-requires c κs = search needs
-
 store-order-requires : tie.Need-store-order-requires
 store-order-requires c κs =
     c .before .before .before .before .pre (sym (c .before .before .is-used .ensures) ∙ c .before .if1 .taken)
-
-same-length : tie.Need-same-length
-same-length c = search needs
 
 returns : tie.Need-returns
 unfolding storeIf
@@ -26,5 +21,4 @@ unfolding storeIf
 returns-2 c = rw (sym (c .before .is-used .ensures) ∙ c .if1 .left)
 
 pub store-if-spec : {M : Type 1} → statement M
-store-if-spec =
-    tie.close (tie.spec is-used-requires store-order-requires same-length returns returns-2)
+store-if-spec = tie.close (tie.spec unasked store-order-requires (λ c. search needs) returns returns-2)

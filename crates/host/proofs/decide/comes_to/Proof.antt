@@ -40,5 +40,4 @@ returns c =
     c .within-limits .ensures ∙ ap (withinLimits t) (c .before .decide .ensures)
 
 pub comes-to-spec : {M : Type 1} → statement M
-comes-to-spec =
-    tie.close (tie.spec order-from-requires decide-requires within-limits-requires returns)
+comes-to-spec = tie.close (tie.spec order-from-requires decide-requires within-limits-requires returns)

@@ -1,8 +1,8 @@
 -- Each return is the rule that the entry's kind comes to. Assumes nothing.
+use Rattle.octets.proofs.Needs.{unasked}
 use Prim.Native.Nat.{_≤_}
 use mathlib.Core.Path.{_≡_, sym, _∙_, subst}
 use native.Mathlib.Omega.{arith}
-use borrow.Author.Needs.{needs}
 use Rattle.wire.specs.Layout.{layoutFor}
 use Rattle.table.specs.Limits.{mostFirms}
 use Rattle.table.proofs.Soundness.{of-sound}
@@ -12,9 +12,6 @@ use Rattle.host.specs.Types.{Header}
 use Rattle.host.proofs.Dispatch.{on-enter, on-replace, on-cancel, on-modify, on-market, names-its}
 use Rattle.host.proofs.decide.decide.Statement.{statement}
 use Rattle.host.proofs.decide.decide.Tie as tie
-
-kind-of-requires : tie.Need-kind-of-requires
-kind-of-requires c κs = search needs
 
 -- the kind that each test found
 kind-1 : (c : tie.Then1) → kindOf (c .before .before .before .before .args .entry .now) ≡ 79
@@ -122,18 +119,5 @@ returns-5 c =
 pub decide-spec : {M : Type 1} → statement M
 decide-spec =
     tie.close
-    (tie.spec
-    kind-of-requires
-    enter-of-requires
-    enter-requires
-    returns
-    decide-replace-requires
-    returns-2
-    cancel-of-requires
-    cancel-requires
-    returns-3
-    modify-of-requires
-    modify-requires
-    returns-4
-    decide-market-requires
-    returns-5)
+    (tie.spec unasked enter-of-requires enter-requires returns decide-replace-requires returns-2 cancel-of-requires cancel-requires
+    returns-3 modify-of-requires modify-requires returns-4 decide-market-requires returns-5)

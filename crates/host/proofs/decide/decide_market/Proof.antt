@@ -1,4 +1,5 @@
 -- Each return is the rule that the entry's kind comes to. Assumes nothing.
+use Rattle.octets.proofs.Needs.{unasked}
 use mathlib.Core.Path.{_≡_, sym, _∙_}
 use borrow.Author.Needs.{needs}
 use Rattle.wire.specs.Layout.{layoutFor}
@@ -7,9 +8,6 @@ use Rattle.tape.proofs.Judged.{well-long}
 use Rattle.host.proofs.Dispatch.{on-execution, on-book-cancel, on-self-match, on-priority, on-late, on-cross-done, on-system, on-nothing}
 use Rattle.host.proofs.decide.decide_market.Statement.{statement}
 use Rattle.host.proofs.decide.decide_market.Tie as tie
-
-kind-of-requires : tie.Need-kind-of-requires
-kind-of-requires c κs = search needs
 
 -- the kind that each test found
 kind-1 : (c : tie.Then1) → kindOf (c .before .before .before .args .entry .now) ≡ 101
@@ -37,9 +35,6 @@ execution-of-requires : tie.Need-execution-of-requires
 unfolding layoutFor
 execution-of-requires c κs = well-long _ 101 (kind-1 c) (c .before .before .before .pre .0)
 
-execution-requires : tie.Need-execution-requires
-execution-requires c κs = search needs
-
 returns : tie.Need-returns
 returns c =
     let t = c .before .before in
@@ -52,9 +47,6 @@ returns c =
 book-cancel-of-requires : tie.Need-book-cancel-of-requires
 unfolding layoutFor
 book-cancel-of-requires c κs = well-long _ 99 (kind-2 c) (c .before .before .before .before .pre .0)
-
-book-cancel-requires : tie.Need-book-cancel-requires
-book-cancel-requires c κs = search needs
 
 returns-2 : tie.Need-returns-2
 returns-2 c =
@@ -69,9 +61,6 @@ self-match-of-requires : tie.Need-self-match-of-requires
 unfolding layoutFor
 self-match-of-requires c κs = well-long _ 113 (kind-3 c) (c .before .before .before .before .before .pre .0)
 
-self-match-requires : tie.Need-self-match-requires
-self-match-requires c κs = search needs
-
 returns-3 : tie.Need-returns-3
 returns-3 c =
     let t = c .before .before in
@@ -85,9 +74,6 @@ priority-of-requires : tie.Need-priority-of-requires
 unfolding layoutFor
 priority-of-requires c κs = well-long _ 112 (kind-4 c) (c .before .before .before .before .before .before .pre .0)
 
-priority-requires : tie.Need-priority-requires
-priority-requires c κs = search needs
-
 returns-4 : tie.Need-returns-4
 returns-4 c =
     let t = c .before .before in
@@ -97,9 +83,6 @@ returns-4 c =
     let done = c .priority .ensures in
     cc (read, done, right)
 
-late-requires : tie.Need-late-requires
-late-requires c κs = search needs
-
 returns-5 : tie.Need-returns-5
 returns-5 c =
     let t = c .before in
@@ -107,9 +90,6 @@ returns-5 c =
     let right = on-late (start .args .h) (start .args .named) (start .args .entry .now) (kind-5 t) in
     let done = c .late .ensures in
     cc (done, right)
-
-cross-done-requires : tie.Need-cross-done-requires
-cross-done-requires c κs = search needs
 
 returns-6 : tie.Need-returns-6
 returns-6 c =
@@ -123,9 +103,6 @@ system-of-requires : tie.Need-system-of-requires
 unfolding layoutFor
 system-of-requires c κs = well-long _ 115 (kind-7 c) (c .before .before .before .before .before .before .before .before .before .pre .0)
 
-system-requires : tie.Need-system-requires
-system-requires c κs = search needs
-
 returns-7 : tie.Need-returns-7
 returns-7 c =
     let t = c .before .before in
@@ -134,9 +111,6 @@ returns-7 c =
     let read = c .before .system-of .ensures in
     let done = c .system .ensures in
     cc (read, done, right)
-
-refused-requires : tie.Need-refused-requires
-refused-requires c κs = search needs
 
 returns-8 : tie.Need-returns-8
 returns-8 c =
@@ -157,26 +131,6 @@ returns-8 c =
 pub decide-market-spec : {M : Type 1} → statement M
 decide-market-spec =
     tie.close
-    (tie.spec
-    kind-of-requires
-    execution-of-requires
-    execution-requires
-    returns
-    book-cancel-of-requires
-    book-cancel-requires
-    returns-2
-    self-match-of-requires
-    self-match-requires
-    returns-3
-    priority-of-requires
-    priority-requires
-    returns-4
-    late-requires
-    returns-5
-    cross-done-requires
-    returns-6
-    system-of-requires
-    system-requires
-    returns-7
-    refused-requires
-    returns-8)
+    (tie.spec unasked execution-of-requires (λ c κs. search needs) returns book-cancel-of-requires (λ c κs. search needs) returns-2
+    self-match-of-requires (λ c κs. search needs) returns-3 priority-of-requires unasked returns-4 unasked returns-5 (λ c κs. search needs)
+    returns-6 system-of-requires unasked returns-7 unasked returns-8)

@@ -5,21 +5,15 @@ use Rattle.table.proofs.Soundness.{of-sound, sound-fit}
 use Rattle.host.proofs.decide.decide_replace.Statement.{statement}
 use Rattle.host.proofs.decide.decide_replace.Tie as tie
 
-replace-of-requires : tie.Need-replace-of-requires
-replace-of-requires c κs = search needs
-
 find-requires : tie.Need-find-requires
 find-requires c κs = sound-fit _ (of-sound _ (c .before .before .before .before .pre .0))
 
 order-from-requires : tie.Need-order-from-requires
 order-from-requires c κs = sound-fit _ (of-sound _ (c .before .before .before .before .before .pre .0))
 
-replace-requires : tie.Need-replace-requires
-replace-requires c κs = search needs
-
 returns : tie.Need-returns
 unfolding orderNamed
 returns c = cc
 
 pub decide-replace-spec : {M : Type 1} → statement M
-decide-replace-spec = tie.close (tie.spec replace-of-requires find-requires order-from-requires replace-requires returns)
+decide-replace-spec = tie.close (tie.spec (λ c κs. search needs) find-requires order-from-requires (λ c κs. search needs) returns)

@@ -1,4 +1,5 @@
 -- Each return is the guard of `withinLimits` that its tests led to. Assumes nothing.
+use Rattle.octets.proofs.Needs.{unasked}
 use mathlib.Core.Path.{_∙_}
 use Rattle.table.specs.Table.{recordsIn}
 use Rattle.host.specs.Step.{noRecordFree, noReferenceLeft}
@@ -7,25 +8,10 @@ use borrow.Author.Needs.{needs}
 use Rattle.host.proofs.decide.within_limits.Statement.{statement}
 use Rattle.host.proofs.decide.within_limits.Tie as tie
 
-number-requires : tie.Need-number-requires
-number-requires c κs = search needs
-
 returns : tie.Need-returns
 returns c =
     let start = c .before .before .before in
     limits-refused (start .args .table .now) (start .args .d) (number-not-done _ (c .before .number .ensures) (c .if1 .taken))
-
-sub-records : tie.Need-sub-records
-sub-records c = search needs
-
-is-used-requires : tie.Need-is-used-requires
-is-used-requires c κs = search needs
-
-cast-if2 : tie.Need-cast-if2
-cast-if2 c = search needs
-
-refused-requires : tie.Need-refused-requires
-refused-requires c κs = search needs
 
 returns-2 : tie.Need-returns-2
 unfolding noRecordFree recordsIn
@@ -34,9 +20,6 @@ returns-2 c =
     let done = number-done (start .args .d .answer) (c .before .before .before .before .before .before .before .number .ensures) (c .before .before .before .before .before .before .if1 .left) in
     c .refused .ensures
     ∙ limits-record (start .args .table .now) (start .args .d) done (rw (← c .before .before .before .is-used .ensures, ← start .pre .1) (c .before .if2 .taken))
-
-refused-requires-2 : tie.Need-refused-requires-2
-refused-requires-2 c κs = search needs
 
 returns-3 : tie.Need-returns-3
 unfolding noRecordFree noReferenceLeft recordsIn
@@ -55,15 +38,4 @@ returns-4 c =
 
 pub within-limits-spec : {M : Type 1} → statement M
 within-limits-spec =
-    tie.close
-    (tie.spec
-    number-requires
-    returns
-    sub-records
-    is-used-requires
-    cast-if2
-    refused-requires
-    returns-2
-    refused-requires-2
-    returns-3
-    returns-4)
+    tie.close (tie.spec unasked returns (λ c. search needs) unasked (λ c. search needs) unasked returns-2 unasked returns-3 returns-4)

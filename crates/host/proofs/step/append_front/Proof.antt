@@ -9,21 +9,6 @@ use borrow.Author.Needs.{needs}
 use Rattle.host.proofs.step.append_front.Statement.{statement}
 use Rattle.host.proofs.step.append_front.Tie as tie
 
-sub-append : tie.Need-sub-append
-sub-append c = search needs
-
-part-append-start : tie.Need-part-append-start
-part-append-start c = search needs
-
-part-append-end : tie.Need-part-append-end
-part-append-end c = search needs
-
-append-requires : tie.Need-append-requires
-append-requires c κs = search needs
-
-same-length : tie.Need-same-length
-same-length c = search needs
-
 returns : tie.Need-returns
 returns c =
     let start = c .before .before .before .before .before .before .before in
@@ -37,5 +22,4 @@ returns c =
 
 pub append-front-spec : {M : Type 1} → statement M
 append-front-spec =
-    tie.close
-    (tie.spec sub-append part-append-start part-append-end append-requires same-length returns)
+    tie.close (tie.spec (λ c. search needs) (λ c. search needs) (λ c. search needs) (λ c κs. search needs) (λ c. search needs) returns)

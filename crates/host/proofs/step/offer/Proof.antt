@@ -1,4 +1,5 @@
 -- Refused as it was judged, or taken. Assumes nothing.
+use Rattle.octets.proofs.Needs.{unasked}
 use mathlib.Core.Path.{_≡_, sym, ap, _∙_, subst}
 use mathlib.Core.Bool.{false}
 use Rattle.answers.specs.Answer.{isDone}
@@ -9,12 +10,6 @@ use Rattle.host.proofs.Offers.{number-done, number-not-done, leaves-unc
 use borrow.Author.Needs.{needs}
 use Rattle.host.proofs.step.offer.Statement.{statement}
 use Rattle.host.proofs.step.offer.Tie as tie
-
-judge-requires : tie.Need-judge-requires
-judge-requires c κs = search needs
-
-number-requires : tie.Need-number-requires
-number-requires c κs = search needs
 
 returns : tie.Need-returns
 returns c =
@@ -30,23 +25,8 @@ take-requires c κs =
     let start = c .before .before .before .before .before .before .before .before in
     (start .pre .0, (start .pre .1, sym (c .before .before .before .before .judge .ensures) ∙ is-done _ (number-done _ (c .before .before .before .number .ensures) (c .before .before .if1 .left))))
 
-same-length : tie.Need-same-length
-same-length c = search needs
-
-same-length-2 : tie.Need-same-length-2
-same-length-2 c = search needs
-
 returns-2 : tie.Need-returns-2
 returns-2 c = search needs
 
 pub offer-spec : {M : Type 1} → statement M
-offer-spec =
-    tie.close
-    (tie.spec
-    judge-requires
-    number-requires
-    returns
-    take-requires
-    same-length
-    same-length-2
-    returns-2)
+offer-spec = tie.close (tie.spec (λ c κs. search needs) unasked returns take-requires (λ c. search needs) (λ c. search needs) returns-2)

@@ -1,4 +1,5 @@
 -- The token's place is found; the system's entries have none to find. Assumes nothing.
+use Rattle.octets.proofs.Needs.{unasked}
 use mathlib.Core.Path.{ap, _∙_}
 use native.Mathlib.Omega.{arith}
 use Rattle.table.specs.Table.{placeOf}
@@ -8,9 +9,6 @@ use Rattle.host.proofs.Offers.{well-formed}
 use borrow.Author.Needs.{needs}
 use Rattle.host.proofs.step.place_named.Statement.{statement}
 use Rattle.host.proofs.step.place_named.Tie as tie
-
-kind-of-requires : tie.Need-kind-of-requires
-kind-of-requires c κs = search needs
 
 used-requires : tie.Need-used-requires
 used-requires c κs = let s = of-sound _ (c .before .before .before .before .pre .0) in omega (arith, s .size .long)
@@ -30,6 +28,4 @@ returns-2 : tie.Need-returns-2
 returns-2 c = λ _. c .find .ensures ∙ ap (placeOf (c .before .before .before .before .before .before .args .table .now)) (c .before .token-of .ensures)
 
 pub place-named-spec : {M : Type 1} → statement M
-place-named-spec =
-    tie.close
-    (tie.spec kind-of-requires used-requires returns token-of-requires find-requires returns-2)
+place-named-spec = tie.close (tie.spec unasked used-requires returns token-of-requires find-requires returns-2)

@@ -1,4 +1,5 @@
 -- Each return is the guard of `settle` that its tests led to. Assumes nothing.
+use Rattle.octets.proofs.Needs.{unasked}
 use Prim.Native.Nat.{ℕ, _-_, _<_}
 use mathlib.Core.Path.{sym, ap, _∙_}
 use native.Mathlib.Omega.{arith}
@@ -13,17 +14,11 @@ use borrow.Author.Needs.{needs}
 use Rattle.host.proofs.step.settle.Statement.{statement}
 use Rattle.host.proofs.step.settle.Tie as tie
 
-number-requires : tie.Need-number-requires
-number-requires c κs = search needs
-
 returns : tie.Need-returns
 returns c =
     let start = c .before .before .before .before .before in
     let w = world (start .args .table .now) (start .args .ring .now) (start .args .marks) in
     leaves-unchanged w _ _ (settle-refused w _ _ (number-not-done _ (c .before .number .ensures) (c .if1 .taken)))
-
-stamp-of-requires : tie.Need-stamp-of-requires
-stamp-of-requires c κs = search needs
 
 message-requires : tie.Need-message-requires
 message-requires c κs =
@@ -47,20 +42,11 @@ commit-requires c κs =
     let w = c .before .before .before .before .before .before .before .before .before .before .before .pre .1 (number-done _ (c .before .before .before .before .before .before .before .number .ensures) (c .before .before .before .before .before .before .if1 .left)) in
     (((w .head, w .long), (w .used, w .reference)), (w .changed, w .added))
 
-slice-aggregate-append-front : tie.Need-slice-aggregate-append-front
-slice-aggregate-append-front c = search needs
-
 append-front-requires : tie.Need-append-front-requires
 unfolding freeBytes
 append-front-requires c κs =
     let sent = c .before .before .before .before .before .before .before .before .message in
     (c .before .before .before .before .before .before .before .before .before .before .before .before .before .before .before .before .pre .0 .0, (c .before .before .before .before .before .before .if2 .left, take-fits _ _ (ap length (sent .ensures .bytes) ∙ sym (sent .ensures .len))))
-
-same-length : tie.Need-same-length
-same-length c = search needs
-
-same-length-2 : tie.Need-same-length-2
-same-length-2 c = search needs
 
 returns-3 : tie.Need-returns-3
 returns-3 c =
@@ -74,16 +60,5 @@ returns-3 c =
 pub settle-spec : {M : Type 1} → statement M
 settle-spec =
     tie.close
-    (tie.spec
-    number-requires
-    returns
-    stamp-of-requires
-    message-requires
-    sub-if2
-    returns-2
-    commit-requires
-    slice-aggregate-append-front
-    append-front-requires
-    same-length
-    same-length-2
-    returns-3)
+    (tie.spec unasked returns (λ c κs. search needs) message-requires sub-if2 returns-2 commit-requires (λ c. search needs)
+    append-front-requires (λ c. search needs) (λ c. search needs) returns-3)

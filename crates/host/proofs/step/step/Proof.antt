@@ -1,4 +1,5 @@
 -- Judged, and then offered. Assumes nothing.
+use Rattle.octets.proofs.Needs.{unasked}
 use mathlib.Core.Path.{sym, _∙_}
 use Rattle.host.specs.Step.{world}
 use Rattle.host.proofs.Offers.{leaves-as, leaves-unchanged, step-unsound, step-wrong, step-offers}
@@ -6,21 +7,9 @@ use borrow.Author.Needs.{needs}
 use Rattle.host.proofs.step.step.Statement.{statement}
 use Rattle.host.proofs.step.step.Tie as tie
 
-sound-requires : tie.Need-sound-requires
-sound-requires c κs = search needs
-
-ring-good-requires : tie.Need-ring-good-requires
-ring-good-requires c κs = search needs
-
 offer-requires : tie.Need-offer-requires
 offer-requires c κs =
     (sym (c .before .before .before .before .before .sound .ensures) ∙ c .before .before .before .before .if1 .taken, sym (c .before .before .before .ring-good .ensures) ∙ c .before .before .if2 .taken)
-
-same-length : tie.Need-same-length
-same-length c = search needs
-
-same-length-2 : tie.Need-same-length-2
-same-length-2 c = search needs
 
 returns : tie.Need-returns
 returns c =
@@ -30,18 +19,12 @@ returns c =
     let right = sym (c .before .before .before .before .before .before .before .before .ring-good .ensures) ∙ c .before .before .before .before .before .before .before .if2 .taken in
     leaves-as (sym (step-offers w _ good right)) (c .before .before .before .before .offer .ensures)
 
-same-length-3 : tie.Need-same-length-3
-same-length-3 c = search needs
-
 returns-2 : tie.Need-returns-2
 returns-2 c =
     let start = c .before .before .before .before .before .before .before .before in
     let w = world (start .args .table .now) (start .args .ring .now) (start .args .marks) in
     let good = sym (c .before .before .before .sound .ensures) ∙ c .before .before .if1 .taken in
     leaves-unchanged w _ _ (step-wrong w _ good (sym (c .before .ring-good .ensures) ∙ c .if2 .left))
-
-same-length-4 : tie.Need-same-length-4
-same-length-4 c = search needs
 
 returns-3 : tie.Need-returns-3
 returns-3 c =
@@ -52,14 +35,5 @@ returns-3 c =
 pub step-spec : {M : Type 1} → statement M
 step-spec =
     tie.close
-    (tie.spec
-    sound-requires
-    ring-good-requires
-    offer-requires
-    same-length
-    same-length-2
-    returns
-    same-length-3
-    returns-2
-    same-length-4
-    returns-3)
+    (tie.spec unasked unasked offer-requires (λ c. search needs) (λ c. search needs) returns (λ c. search needs) returns-2
+    (λ c. search needs) returns-3)

@@ -25,9 +25,6 @@ stamp-of-requires c κs =
     let h = stamp-fits _ (well-formed (start .args .table .now) _ (start .pre .1 .1)) in
     omega (arith, h)
 
-same-length : tie.Need-same-length
-same-length c = search needs
-
 returns : tie.Need-returns
 returns c =
     let start = c .before .before .before .before .before .before .before .before in
@@ -36,9 +33,6 @@ returns c =
     let b = ap (λ (q : Header). q .last) (c .before .before .before .header .ensures) in
     let h : stampOf (start .args .entry .now) < header (w .table) .last = omega (arith, a, b, c .if1 .taken) in
     leaves-unchanged w _ _ (offer-early w _ (start .pre .1 .1) h)
-
-place-named-requires : tie.Need-place-named-requires
-place-named-requires c κs = search needs
 
 comes-to-requires : tie.Need-comes-to-requires
 comes-to-requires c κs =
@@ -62,12 +56,6 @@ settle-requires c κs =
           (writable t s (start .pre .0) d _ _ (c .before .before .before .before .before .before .before .before .before .header .ensures) (c .before .before .before .before .place-named .ensures)),
     )
 
-same-length-2 : tie.Need-same-length-2
-same-length-2 c = search needs
-
-same-length-3 : tie.Need-same-length-3
-same-length-3 c = search needs
-
 returns-2 : tie.Need-returns-2
 returns-2 c =
     let start = c .before .before .before .before .before .before .before .before .before .before .before .before .before .before .before .before .before .before .before in
@@ -81,14 +69,5 @@ returns-2 c =
 pub take-spec : {M : Type 1} → statement M
 take-spec =
     tie.close
-    (tie.spec
-    header-requires
-    stamp-of-requires
-    same-length
-    returns
-    place-named-requires
-    comes-to-requires
-    settle-requires
-    same-length-2
-    same-length-3
-    returns-2)
+    (tie.spec header-requires stamp-of-requires (λ c. search needs) returns (λ c κs. search needs) comes-to-requires settle-requires
+    (λ c. search needs) (λ c. search needs) returns-2)

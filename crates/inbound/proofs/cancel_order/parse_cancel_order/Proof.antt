@@ -4,15 +4,9 @@ use Rattle.inbound.specs.Inbound.{cancelOrderOf}
 use Rattle.inbound.proofs.cancel_order.parse_cancel_order.Statement.{statement}
 use Rattle.inbound.proofs.cancel_order.parse_cancel_order.Tie as tie
 
-bytes14-at-requires : tie.Need-bytes14-at-requires
-bytes14-at-requires c κs = search needs
-
-be32-requires : tie.Need-be32-requires
-be32-requires c κs = search needs
-
 returns : tie.Need-returns
 unfolding cancelOrderOf
 returns c = cc
 
 pub parse-cancel-order-spec : {M : Type 1} → statement M
-parse-cancel-order-spec = tie.close (tie.spec bytes14-at-requires be32-requires returns)
+parse-cancel-order-spec = tie.close (tie.spec (search needs) (search needs) returns)

@@ -1,19 +1,11 @@
 -- The fields come from legal bytes or from zeros, either as long as the message. Assumes nothing.
+use Rattle.octets.proofs.Needs.{unasked}
 use borrow.Author.Needs.{needs}
 use Rattle.wire.specs.Messages.{cancelOrder}
 use Rattle.wire.proofs.RoundTrips.{kept-is, kept-long}
 use Rattle.inbound.specs.Inbound.{readCancelOrder}
 use Rattle.inbound.proofs.cancel_order.read_cancel_order.Statement.{statement}
 use Rattle.inbound.proofs.cancel_order.read_cancel_order.Tie as tie
-
-judge-requires : tie.Need-judge-requires
-judge-requires c κs = search needs
-
-slice-aggregate-taken : tie.Need-slice-aggregate-taken
-slice-aggregate-taken c = search needs
-
-taken-requires : tie.Need-taken-requires
-taken-requires c κs = search needs
 
 parse-cancel-order-requires : tie.Need-parse-cancel-order-requires
 parse-cancel-order-requires c κs =
@@ -28,11 +20,4 @@ returns c =
     cc
 
 pub read-cancel-order-spec : {M : Type 1} → statement M
-read-cancel-order-spec =
-    tie.close
-    (tie.spec
-    judge-requires
-    slice-aggregate-taken
-    taken-requires
-    parse-cancel-order-requires
-    returns)
+read-cancel-order-spec = tie.close (tie.spec (search needs) (search needs) unasked parse-cancel-order-requires returns)

@@ -28,5 +28,4 @@ returns c =
     (token .put-token .ensures then size .put-integer .ensures then ends)
 
 pub spell-cancel-order-spec : {M : Type 1} → statement M
-spell-cancel-order-spec =
-    tie.close (tie.spec put-letter-requires put-token-requires put-integer-requires returns)
+spell-cancel-order-spec = tie.close (tie.spec put-letter-requires put-token-requires put-integer-requires returns)

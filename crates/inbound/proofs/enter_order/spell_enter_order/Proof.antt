@@ -73,18 +73,6 @@ returns c =
 pub spell-enter-order-spec : {M : Type 1} → statement M
 spell-enter-order-spec =
     tie.close
-    (tie.spec
-    put-letter-requires
-    put-token-requires
-    put-letter-requires-2
-    put-integer-requires
-    put-stock-requires
-    put-integer-requires-2
-    put-integer-requires-3
-    put-firm-requires
-    put-letter-requires-3
-    put-letter-requires-4
-    put-letter-requires-5
-    put-integer-requires-4
-    put-letter-requires-6
-    returns)
+    (tie.spec put-letter-requires put-token-requires put-letter-requires-2 put-integer-requires put-stock-requires put-integer-requires-2
+    put-integer-requires-3 put-firm-requires put-letter-requires-3 put-letter-requires-4 put-letter-requires-5 put-integer-requires-4
+    put-letter-requires-6 returns)

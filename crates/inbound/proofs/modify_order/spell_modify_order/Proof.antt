@@ -32,11 +32,4 @@ returns c =
     (token .put-token .ensures then side .put-letter2 .ensures then shares .put-integer .ensures then ends)
 
 pub spell-modify-order-spec : {M : Type 1} → statement M
-spell-modify-order-spec =
-    tie.close
-    (tie.spec
-    put-letter-requires
-    put-token-requires
-    put-letter-requires-2
-    put-integer-requires
-    returns)
+spell-modify-order-spec = tie.close (tie.spec put-letter-requires put-token-requires put-letter-requires-2 put-integer-requires returns)

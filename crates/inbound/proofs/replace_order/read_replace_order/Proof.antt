@@ -1,19 +1,11 @@
 -- The fields come from legal bytes or from zeros, either as long as the message. Assumes nothing.
+use Rattle.octets.proofs.Needs.{unasked}
 use borrow.Author.Needs.{needs}
 use Rattle.wire.specs.Messages.{replaceOrder}
 use Rattle.wire.proofs.RoundTrips.{kept-is, kept-long}
 use Rattle.inbound.specs.Inbound.{readReplaceOrder}
 use Rattle.inbound.proofs.replace_order.read_replace_order.Statement.{statement}
 use Rattle.inbound.proofs.replace_order.read_replace_order.Tie as tie
-
-judge-requires : tie.Need-judge-requires
-judge-requires c κs = search needs
-
-slice-aggregate-taken : tie.Need-slice-aggregate-taken
-slice-aggregate-taken c = search needs
-
-taken-requires : tie.Need-taken-requires
-taken-requires c κs = search needs
 
 parse-replace-order-requires : tie.Need-parse-replace-order-requires
 parse-replace-order-requires c κs =
@@ -28,11 +20,4 @@ returns c =
     cc
 
 pub read-replace-order-spec : {M : Type 1} → statement M
-read-replace-order-spec =
-    tie.close
-    (tie.spec
-    judge-requires
-    slice-aggregate-taken
-    taken-requires
-    parse-replace-order-requires
-    returns)
+read-replace-order-spec = tie.close (tie.spec (search needs) (search needs) unasked parse-replace-order-requires returns)

@@ -56,14 +56,5 @@ returns c =
 pub spell-replace-order-spec : {M : Type 1} → statement M
 spell-replace-order-spec =
     tie.close
-    (tie.spec
-    put-letter-requires
-    put-token-requires
-    put-token-requires-2
-    put-integer-requires
-    put-integer-requires-2
-    put-integer-requires-3
-    put-letter-requires-2
-    put-letter-requires-3
-    put-integer-requires-4
-    returns)
+    (tie.spec put-letter-requires put-token-requires put-token-requires-2 put-integer-requires put-integer-requires-2 put-integer-requires-3
+    put-letter-requires-2 put-letter-requires-3 put-integer-requires-4 returns)

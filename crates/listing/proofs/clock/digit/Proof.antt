@@ -6,15 +6,9 @@ use borrow.Author.Needs.{needs}
 use Rattle.listing.proofs.clock.digit.Statement.{statement}
 use Rattle.listing.proofs.clock.digit.Tie as tie
 
-cast-result : tie.Need-cast-result
-cast-result c = search needs
-
-add-result : tie.Need-add-result
-add-result c = search needs
-
 returns : tie.Need-returns
 returns c = let below : c .args .n % 10 < 10 = omega arith in
     simp (lt-ltb _ _ below)
 
 pub digit-spec : {M : Type 1} → statement M
-digit-spec = tie.close (tie.spec cast-result add-result returns)
+digit-spec = tie.close (tie.spec (search needs) (search needs) returns)

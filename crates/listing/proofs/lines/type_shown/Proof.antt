@@ -9,12 +9,9 @@ returns : tie.Need-returns
 unfolding typeShown
 returns c = simp (eq-eqb _ _ (c .if1 .taken))
 
-shared-slice-read-result : tie.Need-shared-slice-read-result
-shared-slice-read-result c = search needs
-
 returns-2 : tie.Need-returns-2
 unfolding typeShown
 returns-2 c = simp (ne-eqb _ _ (c .before .if1 .left))
 
 pub type-shown-spec : {M : Type 1} → statement M
-type-shown-spec = tie.close (tie.spec returns shared-slice-read-result returns-2)
+type-shown-spec = tie.close (tie.spec returns (search needs) returns-2)

@@ -10,15 +10,6 @@ use Rattle.listing.proofs.Places.{at-most-twenty, decimal-text, decimal
 use Rattle.listing.proofs.numbers.put_decimal.Statement.{statement}
 use Rattle.listing.proofs.numbers.put_decimal.Tie as tie
 
-decimal-requires : tie.Need-decimal-requires
-decimal-requires c κs = search needs
-
-array-share-prefix-digits : tie.Need-array-share-prefix-digits
-array-share-prefix-digits c = search needs
-
-slice-aggregate-put-bytes : tie.Need-slice-aggregate-put-bytes
-slice-aggregate-put-bytes c = search needs
-
 put-bytes-requires : tie.Need-put-bytes-requires
 put-bytes-requires c κs =
     let s = c .before .before .before .before .before in
@@ -30,9 +21,6 @@ add-result c =
     let s = c .before .before .before .before .before .before .before .before in
     let k = c .before .before .before .before .before .decimal in
     omega (arith, at-most-twenty (s .args .n) (k .result) (omega arith) (k .ensures .1 .0), s .pre)
-
-same-length : tie.Need-same-length
-same-length c = search needs
 
 returns : tie.Need-returns
 returns c =
@@ -46,13 +34,4 @@ returns c =
     )
 
 pub put-decimal-spec : {M : Type 1} → statement M
-put-decimal-spec =
-    tie.close
-    (tie.spec
-    decimal-requires
-    array-share-prefix-digits
-    slice-aggregate-put-bytes
-    put-bytes-requires
-    add-result
-    same-length
-    returns)
+put-decimal-spec = tie.close (tie.spec (search needs) (search needs) (search needs) put-bytes-requires add-result (search needs) returns)

@@ -13,9 +13,6 @@ use Rattle.octets.proofs.Below.{all-at}
 use Rattle.listing.proofs.numbers.sixteenth.Statement.{statement}
 use Rattle.listing.proofs.numbers.sixteenth.Tie as tie
 
-array-read-result : tie.Need-array-read-result
-array-read-result c = search needs
-
 letters : List ℕ
 letters = text "0123456789abcdef"
 
@@ -27,4 +24,4 @@ unfolding letters right text allBelow
 returns c = eqb-true _ _ (all-at right 16 (c .args .d) refl (c .pre))
 
 pub sixteenth-spec : {M : Type 1} → statement M
-sixteenth-spec = tie.close (tie.spec array-read-result returns)
+sixteenth-spec = tie.close (tie.spec (search needs) returns)

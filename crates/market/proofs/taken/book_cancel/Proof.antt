@@ -1,19 +1,13 @@
 -- Each return is the guard that its tests led to. Shares that are not wrong leave the order within its counts. Assumes nothing.
+use Rattle.octets.proofs.Needs.{unasked}
 use native.Mathlib.Omega.{arith}
 use borrow.Author.Tests.{not-false}
 use Rattle.octets.proofs.Guards.{answered, denied}
 use Rattle.table.specs.Counts.{cut, withLiable}
 use Rattle.market.specs.Taken.{bookCancelRule}
 use Rattle.market.proofs.Room.{no-more-than-open}
-use borrow.Author.Needs.{needs}
 use Rattle.market.proofs.taken.book_cancel.Statement.{statement}
 use Rattle.market.proofs.taken.book_cancel.Tie as tie
-
-is-live-requires : tie.Need-is-live-requires
-is-live-requires c κs = search needs
-
-refused-requires : tie.Need-refused-requires
-refused-requires c κs = search needs
 
 returns : tie.Need-returns
 unfolding bookCancelRule
@@ -21,9 +15,6 @@ returns c = simp (c .refused .ensures, denied (c .before .before .is-live .ensur
 
 shares-wrong-requires : tie.Need-shares-wrong-requires
 shares-wrong-requires c κs = c .before .before .pre (not-false _ (denied (c .before .is-live .ensures) (c .if1 .left)))
-
-refused-requires-2 : tie.Need-refused-requires-2
-refused-requires-2 c κs = search needs
 
 returns-2 : tie.Need-returns-2
 unfolding bookCancelRule
@@ -40,9 +31,6 @@ with-counts-requires c κs =
     let room = no-more-than-open _ _ (c .before .before .before .before .before .before .pre (not-false _ (denied (c .before .before .before .before .before .is-live .ensures) (c .before .before .before .before .if1 .left)))) (answered (c .before .before .before .shares-wrong .ensures) (c .before .before .if2 .left)) in
     rw (c .cut .ensures) (omega arith)
 
-changing-requires : tie.Need-changing-requires
-changing-requires c κs = search needs
-
 returns-3 : tie.Need-returns-3
 unfolding bookCancelRule
 returns-3 c =
@@ -51,15 +39,4 @@ returns-3 c =
 
 pub book-cancel-spec : {M : Type 1} → statement M
 book-cancel-spec =
-    tie.close
-    (tie.spec
-    is-live-requires
-    refused-requires
-    returns
-    shares-wrong-requires
-    refused-requires-2
-    returns-2
-    cut-requires
-    with-counts-requires
-    changing-requires
-    returns-3)
+    tie.close (tie.spec unasked unasked returns shares-wrong-requires unasked returns-2 cut-requires with-counts-requires unasked returns-3)

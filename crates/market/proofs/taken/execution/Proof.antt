@@ -1,29 +1,17 @@
 -- Each return is the guard that its tests led to. Shares that are not wrong leave the order within its counts. Assumes nothing.
+use Rattle.octets.proofs.Needs.{unasked}
 use native.Mathlib.Omega.{arith}
 use borrow.Author.Tests.{not-false}
 use Rattle.octets.proofs.Guards.{answered, denied}
 use Rattle.table.specs.Counts.{executing}
 use Rattle.market.specs.Taken.{executionRule}
 use Rattle.market.proofs.Room.{no-more-than-open}
-use borrow.Author.Needs.{needs}
 use Rattle.market.proofs.taken.execution.Statement.{statement}
 use Rattle.market.proofs.taken.execution.Tie as tie
-
-is-live-requires : tie.Need-is-live-requires
-is-live-requires c κs = search needs
-
-refused-requires : tie.Need-refused-requires
-refused-requires c κs = search needs
 
 returns : tie.Need-returns
 unfolding executionRule
 returns c = simp (c .refused .ensures, denied (c .before .before .is-live .ensures) (c .before .if1 .taken))
-
-is-open-day-requires : tie.Need-is-open-day-requires
-is-open-day-requires c κs = search needs
-
-refused-requires-2 : tie.Need-refused-requires-2
-refused-requires-2 c κs = search needs
 
 returns-2 : tie.Need-returns-2
 unfolding executionRule
@@ -31,9 +19,6 @@ returns-2 c = simp (c .refused2 .ensures, denied (c .before .before .before .bef
 
 shares-wrong-requires : tie.Need-shares-wrong-requires
 shares-wrong-requires c κs = c .before .before .before .before .pre (not-false _ (denied (c .before .before .before .is-live .ensures) (c .before .before .if1 .left)))
-
-refused-requires-3 : tie.Need-refused-requires-3
-refused-requires-3 c κs = search needs
 
 returns-3 : tie.Need-returns-3
 unfolding executionRule
@@ -50,9 +35,6 @@ with-counts-requires c κs =
     let room = no-more-than-open _ _ (c .before .before .before .before .before .before .before .pre (not-false _ (denied (c .before .before .before .before .before .before .is-live .ensures) (c .before .before .before .before .before .if1 .left)))) (answered (c .before .before .shares-wrong .ensures) (c .before .if3 .left)) in
     rw (c .executing .ensures) (omega arith)
 
-changing-requires : tie.Need-changing-requires
-changing-requires c κs = search needs
-
 returns-4 : tie.Need-returns-4
 unfolding executionRule
 returns-4 c =
@@ -62,17 +44,5 @@ returns-4 c =
 pub execution-spec : {M : Type 1} → statement M
 execution-spec =
     tie.close
-    (tie.spec
-    is-live-requires
-    refused-requires
-    returns
-    is-open-day-requires
-    refused-requires-2
-    returns-2
-    shares-wrong-requires
-    refused-requires-3
-    returns-3
-    executing-requires
-    with-counts-requires
-    changing-requires
-    returns-4)
+    (tie.spec unasked unasked returns unasked unasked returns-2 shares-wrong-requires unasked returns-3 executing-requires
+    with-counts-requires unasked returns-4)

@@ -4,12 +4,9 @@ use borrow.Author.Needs.{needs}
 use Rattle.market.proofs.taken.shares_wrong.Statement.{statement}
 use Rattle.market.proofs.taken.shares_wrong.Tie as tie
 
-open-shares-requires : tie.Need-open-shares-requires
-open-shares-requires c κs = search needs
-
 returns : tie.Need-returns
 unfolding sharesWrong
 returns c = simp (c .before .before .open-shares .ensures)
 
 pub shares-wrong-spec : {M : Type 1} → statement M
-shares-wrong-spec = tie.close (tie.spec open-shares-requires returns)
+shares-wrong-spec = tie.close (tie.spec (λ c κs. search needs) returns)

@@ -5,13 +5,10 @@ use Rattle.wire.proofs.Numbered.{length-is, length-fits}
 use Rattle.messages.proofs.examples.whole_length.Statement.{statement}
 use Rattle.messages.proofs.examples.whole_length.Tie as tie
 
-size-requires : tie.Need-size-requires
-size-requires c κs = search needs
-
 returns : tie.Need-returns
 returns c =
     let k = c .before .args .k in
     omega (arith, c .size .ensures, length-is k (c .before .pre), length-fits k (c .before .pre))
 
 pub whole-length-spec : {M : Type 1} → statement M
-whole-length-spec = tie.close (tie.spec size-requires returns)
+whole-length-spec = tie.close (tie.spec (search needs) returns)

@@ -1,19 +1,11 @@
 -- The fields come from legal bytes or from zeros, either as long as the message. Assumes nothing.
+use Rattle.octets.proofs.Needs.{unasked}
 use borrow.Author.Needs.{needs}
 use Rattle.wire.specs.Messages.{accepted}
 use Rattle.wire.proofs.RoundTrips.{kept-is, kept-long}
 use Rattle.outbound.specs.Outbound.{readAccepted}
 use Rattle.outbound.proofs.accepted.read_accepted.Statement.{statement}
 use Rattle.outbound.proofs.accepted.read_accepted.Tie as tie
-
-judge-requires : tie.Need-judge-requires
-judge-requires c κs = search needs
-
-slice-aggregate-taken : tie.Need-slice-aggregate-taken
-slice-aggregate-taken c = search needs
-
-taken-requires : tie.Need-taken-requires
-taken-requires c κs = search needs
 
 parse-accepted-requires : tie.Need-parse-accepted-requires
 parse-accepted-requires c κs =
@@ -28,6 +20,4 @@ returns c =
     cc
 
 pub read-accepted-spec : {M : Type 1} → statement M
-read-accepted-spec =
-    tie.close
-    (tie.spec judge-requires slice-aggregate-taken taken-requires parse-accepted-requires returns)
+read-accepted-spec = tie.close (tie.spec (search needs) (search needs) unasked parse-accepted-requires returns)

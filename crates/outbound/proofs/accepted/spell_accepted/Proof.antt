@@ -91,22 +91,6 @@ returns c =
 pub spell-accepted-spec : {M : Type 1} → statement M
 spell-accepted-spec =
     tie.close
-    (tie.spec
-    put-letter-requires
-    put-long-requires
-    put-token-requires
-    put-letter-requires-2
-    put-integer-requires
-    put-stock-requires
-    put-integer-requires-2
-    put-integer-requires-3
-    put-firm-requires
-    put-letter-requires-3
-    put-long-requires-2
-    put-letter-requires-4
-    put-letter-requires-5
-    put-integer-requires-4
-    put-letter-requires-6
-    put-letter-requires-7
-    put-letter-requires-8
-    returns)
+    (tie.spec put-letter-requires put-long-requires put-token-requires put-letter-requires-2 put-integer-requires put-stock-requires
+    put-integer-requires-2 put-integer-requires-3 put-firm-requires put-letter-requires-3 put-long-requires-2 put-letter-requires-4
+    put-letter-requires-5 put-integer-requires-4 put-letter-requires-6 put-letter-requires-7 put-letter-requires-8 returns)

@@ -1,19 +1,11 @@
 -- The fields come from legal bytes or from zeros, either as long as the message. Assumes nothing.
+use Rattle.octets.proofs.Needs.{unasked}
 use borrow.Author.Needs.{needs}
 use Rattle.wire.specs.Messages.{aiqCancelled}
 use Rattle.wire.proofs.RoundTrips.{kept-is, kept-long}
 use Rattle.outbound.specs.Outbound.{readAiqCancelled}
 use Rattle.outbound.proofs.aiq_cancelled.read_aiq_cancelled.Statement.{statement}
 use Rattle.outbound.proofs.aiq_cancelled.read_aiq_cancelled.Tie as tie
-
-judge-requires : tie.Need-judge-requires
-judge-requires c κs = search needs
-
-slice-aggregate-taken : tie.Need-slice-aggregate-taken
-slice-aggregate-taken c = search needs
-
-taken-requires : tie.Need-taken-requires
-taken-requires c κs = search needs
 
 parse-aiq-cancelled-requires : tie.Need-parse-aiq-cancelled-requires
 parse-aiq-cancelled-requires c κs =
@@ -28,11 +20,4 @@ returns c =
     cc
 
 pub read-aiq-cancelled-spec : {M : Type 1} → statement M
-read-aiq-cancelled-spec =
-    tie.close
-    (tie.spec
-    judge-requires
-    slice-aggregate-taken
-    taken-requires
-    parse-aiq-cancelled-requires
-    returns)
+read-aiq-cancelled-spec = tie.close (tie.spec (search needs) (search needs) unasked parse-aiq-cancelled-requires returns)

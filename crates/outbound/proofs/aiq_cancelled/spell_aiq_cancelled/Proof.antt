@@ -52,13 +52,5 @@ returns c =
 pub spell-aiq-cancelled-spec : {M : Type 1} → statement M
 spell-aiq-cancelled-spec =
     tie.close
-    (tie.spec
-    put-letter-requires
-    put-long-requires
-    put-token-requires
-    put-integer-requires
-    put-letter-requires-2
-    put-integer-requires-2
-    put-integer-requires-3
-    put-letter-requires-3
-    returns)
+    (tie.spec put-letter-requires put-long-requires put-token-requires put-integer-requires put-letter-requires-2 put-integer-requires-2
+    put-integer-requires-3 put-letter-requires-3 returns)

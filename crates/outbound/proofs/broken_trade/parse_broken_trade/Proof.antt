@@ -4,22 +4,9 @@ use Rattle.outbound.specs.Outbound.{brokenTradeOf}
 use Rattle.outbound.proofs.broken_trade.parse_broken_trade.Statement.{statement}
 use Rattle.outbound.proofs.broken_trade.parse_broken_trade.Tie as tie
 
-be64-requires : tie.Need-be64-requires
-be64-requires c κs = search needs
-
-bytes14-at-requires : tie.Need-bytes14-at-requires
-bytes14-at-requires c κs = search needs
-
-be64-requires-2 : tie.Need-be64-requires-2
-be64-requires-2 c κs = search needs
-
-byte-at-requires : tie.Need-byte-at-requires
-byte-at-requires c κs = search needs
-
 returns : tie.Need-returns
 unfolding brokenTradeOf
 returns c = cc
 
 pub parse-broken-trade-spec : {M : Type 1} → statement M
-parse-broken-trade-spec =
-    tie.close (tie.spec be64-requires bytes14-at-requires be64-requires-2 byte-at-requires returns)
+parse-broken-trade-spec = tie.close (tie.spec (search needs) (search needs) (search needs) (search needs) returns)

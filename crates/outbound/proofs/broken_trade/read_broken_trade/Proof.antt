@@ -1,19 +1,11 @@
 -- The fields come from legal bytes or from zeros, either as long as the message. Assumes nothing.
+use Rattle.octets.proofs.Needs.{unasked}
 use borrow.Author.Needs.{needs}
 use Rattle.wire.specs.Messages.{brokenTrade}
 use Rattle.wire.proofs.RoundTrips.{kept-is, kept-long}
 use Rattle.outbound.specs.Outbound.{readBrokenTrade}
 use Rattle.outbound.proofs.broken_trade.read_broken_trade.Statement.{statement}
 use Rattle.outbound.proofs.broken_trade.read_broken_trade.Tie as tie
-
-judge-requires : tie.Need-judge-requires
-judge-requires c κs = search needs
-
-slice-aggregate-taken : tie.Need-slice-aggregate-taken
-slice-aggregate-taken c = search needs
-
-taken-requires : tie.Need-taken-requires
-taken-requires c κs = search needs
 
 parse-broken-trade-requires : tie.Need-parse-broken-trade-requires
 parse-broken-trade-requires c κs =
@@ -28,11 +20,4 @@ returns c =
     cc
 
 pub read-broken-trade-spec : {M : Type 1} → statement M
-read-broken-trade-spec =
-    tie.close
-    (tie.spec
-    judge-requires
-    slice-aggregate-taken
-    taken-requires
-    parse-broken-trade-requires
-    returns)
+read-broken-trade-spec = tie.close (tie.spec (search needs) (search needs) unasked parse-broken-trade-requires returns)

@@ -38,11 +38,4 @@ returns c =
 
 pub spell-broken-trade-spec : {M : Type 1} → statement M
 spell-broken-trade-spec =
-    tie.close
-    (tie.spec
-    put-letter-requires
-    put-long-requires
-    put-token-requires
-    put-long-requires-2
-    put-letter-requires-2
-    returns)
+    tie.close (tie.spec put-letter-requires put-long-requires put-token-requires put-long-requires-2 put-letter-requires-2 returns)

@@ -1,19 +1,11 @@
 -- The fields come from legal bytes or from zeros, either as long as the message. Assumes nothing.
+use Rattle.octets.proofs.Needs.{unasked}
 use borrow.Author.Needs.{needs}
 use Rattle.wire.specs.Messages.{cancelPending}
 use Rattle.wire.proofs.RoundTrips.{kept-is, kept-long}
 use Rattle.outbound.specs.Outbound.{readCancelPending}
 use Rattle.outbound.proofs.cancel_pending.read_cancel_pending.Statement.{statement}
 use Rattle.outbound.proofs.cancel_pending.read_cancel_pending.Tie as tie
-
-judge-requires : tie.Need-judge-requires
-judge-requires c κs = search needs
-
-slice-aggregate-taken : tie.Need-slice-aggregate-taken
-slice-aggregate-taken c = search needs
-
-taken-requires : tie.Need-taken-requires
-taken-requires c κs = search needs
 
 parse-cancel-pending-requires : tie.Need-parse-cancel-pending-requires
 parse-cancel-pending-requires c κs =
@@ -28,11 +20,4 @@ returns c =
     cc
 
 pub read-cancel-pending-spec : {M : Type 1} → statement M
-read-cancel-pending-spec =
-    tie.close
-    (tie.spec
-    judge-requires
-    slice-aggregate-taken
-    taken-requires
-    parse-cancel-pending-requires
-    returns)
+read-cancel-pending-spec = tie.close (tie.spec (search needs) (search needs) unasked parse-cancel-pending-requires returns)

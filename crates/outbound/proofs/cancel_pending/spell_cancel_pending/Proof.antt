@@ -28,5 +28,4 @@ returns c =
     (stamp .put-long .ensures then token .put-token .ensures then ends)
 
 pub spell-cancel-pending-spec : {M : Type 1} → statement M
-spell-cancel-pending-spec =
-    tie.close (tie.spec put-letter-requires put-long-requires put-token-requires returns)
+spell-cancel-pending-spec = tie.close (tie.spec put-letter-requires put-long-requires put-token-requires returns)

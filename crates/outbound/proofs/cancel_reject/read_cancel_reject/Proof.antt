@@ -1,19 +1,11 @@
 -- The fields come from legal bytes or from zeros, either as long as the message. Assumes nothing.
+use Rattle.octets.proofs.Needs.{unasked}
 use borrow.Author.Needs.{needs}
 use Rattle.wire.specs.Messages.{cancelReject}
 use Rattle.wire.proofs.RoundTrips.{kept-is, kept-long}
 use Rattle.outbound.specs.Outbound.{readCancelReject}
 use Rattle.outbound.proofs.cancel_reject.read_cancel_reject.Statement.{statement}
 use Rattle.outbound.proofs.cancel_reject.read_cancel_reject.Tie as tie
-
-judge-requires : tie.Need-judge-requires
-judge-requires c κs = search needs
-
-slice-aggregate-taken : tie.Need-slice-aggregate-taken
-slice-aggregate-taken c = search needs
-
-taken-requires : tie.Need-taken-requires
-taken-requires c κs = search needs
 
 parse-cancel-reject-requires : tie.Need-parse-cancel-reject-requires
 parse-cancel-reject-requires c κs =
@@ -28,11 +20,4 @@ returns c =
     cc
 
 pub read-cancel-reject-spec : {M : Type 1} → statement M
-read-cancel-reject-spec =
-    tie.close
-    (tie.spec
-    judge-requires
-    slice-aggregate-taken
-    taken-requires
-    parse-cancel-reject-requires
-    returns)
+read-cancel-reject-spec = tie.close (tie.spec (search needs) (search needs) unasked parse-cancel-reject-requires returns)

@@ -28,5 +28,4 @@ returns c =
     (stamp .put-long .ensures then token .put-token .ensures then ends)
 
 pub spell-cancel-reject-spec : {M : Type 1} → statement M
-spell-cancel-reject-spec =
-    tie.close (tie.spec put-letter-requires put-long-requires put-token-requires returns)
+spell-cancel-reject-spec = tie.close (tie.spec put-letter-requires put-long-requires put-token-requires returns)

@@ -1,19 +1,11 @@
 -- The fields come from legal bytes or from zeros, either as long as the message. Assumes nothing.
+use Rattle.octets.proofs.Needs.{unasked}
 use borrow.Author.Needs.{needs}
 use Rattle.wire.specs.Messages.{canceled}
 use Rattle.wire.proofs.RoundTrips.{kept-is, kept-long}
 use Rattle.outbound.specs.Outbound.{readCanceled}
 use Rattle.outbound.proofs.canceled.read_canceled.Statement.{statement}
 use Rattle.outbound.proofs.canceled.read_canceled.Tie as tie
-
-judge-requires : tie.Need-judge-requires
-judge-requires c κs = search needs
-
-slice-aggregate-taken : tie.Need-slice-aggregate-taken
-slice-aggregate-taken c = search needs
-
-taken-requires : tie.Need-taken-requires
-taken-requires c κs = search needs
 
 parse-canceled-requires : tie.Need-parse-canceled-requires
 parse-canceled-requires c κs =
@@ -28,6 +20,4 @@ returns c =
     cc
 
 pub read-canceled-spec : {M : Type 1} → statement M
-read-canceled-spec =
-    tie.close
-    (tie.spec judge-requires slice-aggregate-taken taken-requires parse-canceled-requires returns)
+read-canceled-spec = tie.close (tie.spec (search needs) (search needs) unasked parse-canceled-requires returns)

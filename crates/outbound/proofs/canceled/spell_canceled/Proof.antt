@@ -38,11 +38,4 @@ returns c =
 
 pub spell-canceled-spec : {M : Type 1} → statement M
 spell-canceled-spec =
-    tie.close
-    (tie.spec
-    put-letter-requires
-    put-long-requires
-    put-token-requires
-    put-integer-requires
-    put-letter-requires-2
-    returns)
+    tie.close (tie.spec put-letter-requires put-long-requires put-token-requires put-integer-requires put-letter-requires-2 returns)

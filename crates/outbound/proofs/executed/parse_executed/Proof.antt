@@ -4,36 +4,9 @@ use Rattle.outbound.specs.Outbound.{executedOf}
 use Rattle.outbound.proofs.executed.parse_executed.Statement.{statement}
 use Rattle.outbound.proofs.executed.parse_executed.Tie as tie
 
-be64-requires : tie.Need-be64-requires
-be64-requires c κs = search needs
-
-bytes14-at-requires : tie.Need-bytes14-at-requires
-bytes14-at-requires c κs = search needs
-
-be32-requires : tie.Need-be32-requires
-be32-requires c κs = search needs
-
-be32-requires-2 : tie.Need-be32-requires-2
-be32-requires-2 c κs = search needs
-
-byte-at-requires : tie.Need-byte-at-requires
-byte-at-requires c κs = search needs
-
-be64-requires-2 : tie.Need-be64-requires-2
-be64-requires-2 c κs = search needs
-
 returns : tie.Need-returns
 unfolding executedOf
 returns c = cc
 
 pub parse-executed-spec : {M : Type 1} → statement M
-parse-executed-spec =
-    tie.close
-    (tie.spec
-    be64-requires
-    bytes14-at-requires
-    be32-requires
-    be32-requires-2
-    byte-at-requires
-    be64-requires-2
-    returns)
+parse-executed-spec = tie.close (tie.spec (search needs) (search needs) (search needs) (search needs) (search needs) (search needs) returns)

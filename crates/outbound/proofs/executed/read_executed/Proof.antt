@@ -1,19 +1,11 @@
 -- The fields come from legal bytes or from zeros, either as long as the message. Assumes nothing.
+use Rattle.octets.proofs.Needs.{unasked}
 use borrow.Author.Needs.{needs}
 use Rattle.wire.specs.Messages.{executed}
 use Rattle.wire.proofs.RoundTrips.{kept-is, kept-long}
 use Rattle.outbound.specs.Outbound.{readExecuted}
 use Rattle.outbound.proofs.executed.read_executed.Statement.{statement}
 use Rattle.outbound.proofs.executed.read_executed.Tie as tie
-
-judge-requires : tie.Need-judge-requires
-judge-requires c κs = search needs
-
-slice-aggregate-taken : tie.Need-slice-aggregate-taken
-slice-aggregate-taken c = search needs
-
-taken-requires : tie.Need-taken-requires
-taken-requires c κs = search needs
 
 parse-executed-requires : tie.Need-parse-executed-requires
 parse-executed-requires c κs =
@@ -28,6 +20,4 @@ returns c =
     cc
 
 pub read-executed-spec : {M : Type 1} → statement M
-read-executed-spec =
-    tie.close
-    (tie.spec judge-requires slice-aggregate-taken taken-requires parse-executed-requires returns)
+read-executed-spec = tie.close (tie.spec (search needs) (search needs) unasked parse-executed-requires returns)

@@ -47,12 +47,5 @@ returns c =
 pub spell-executed-spec : {M : Type 1} → statement M
 spell-executed-spec =
     tie.close
-    (tie.spec
-    put-letter-requires
-    put-long-requires
-    put-token-requires
-    put-integer-requires
-    put-integer-requires-2
-    put-letter-requires-2
-    put-long-requires-2
-    returns)
+    (tie.spec put-letter-requires put-long-requires put-token-requires put-integer-requires put-integer-requires-2 put-letter-requires-2
+    put-long-requires-2 returns)

@@ -1,19 +1,11 @@
 -- The fields come from legal bytes or from zeros, either as long as the message. Assumes nothing.
+use Rattle.octets.proofs.Needs.{unasked}
 use borrow.Author.Needs.{needs}
 use Rattle.wire.specs.Messages.{modified}
 use Rattle.wire.proofs.RoundTrips.{kept-is, kept-long}
 use Rattle.outbound.specs.Outbound.{readModified}
 use Rattle.outbound.proofs.modified.read_modified.Statement.{statement}
 use Rattle.outbound.proofs.modified.read_modified.Tie as tie
-
-judge-requires : tie.Need-judge-requires
-judge-requires c κs = search needs
-
-slice-aggregate-taken : tie.Need-slice-aggregate-taken
-slice-aggregate-taken c = search needs
-
-taken-requires : tie.Need-taken-requires
-taken-requires c κs = search needs
 
 parse-modified-requires : tie.Need-parse-modified-requires
 parse-modified-requires c κs =
@@ -28,6 +20,4 @@ returns c =
     cc
 
 pub read-modified-spec : {M : Type 1} → statement M
-read-modified-spec =
-    tie.close
-    (tie.spec judge-requires slice-aggregate-taken taken-requires parse-modified-requires returns)
+read-modified-spec = tie.close (tie.spec (search needs) (search needs) unasked parse-modified-requires returns)

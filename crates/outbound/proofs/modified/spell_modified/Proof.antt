@@ -38,11 +38,4 @@ returns c =
 
 pub spell-modified-spec : {M : Type 1} → statement M
 spell-modified-spec =
-    tie.close
-    (tie.spec
-    put-letter-requires
-    put-long-requires
-    put-token-requires
-    put-letter-requires-2
-    put-integer-requires
-    returns)
+    tie.close (tie.spec put-letter-requires put-long-requires put-token-requires put-letter-requires-2 put-integer-requires returns)

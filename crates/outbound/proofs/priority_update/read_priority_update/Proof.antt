@@ -1,19 +1,11 @@
 -- The fields come from legal bytes or from zeros, either as long as the message. Assumes nothing.
+use Rattle.octets.proofs.Needs.{unasked}
 use borrow.Author.Needs.{needs}
 use Rattle.wire.specs.Messages.{priorityUpdate}
 use Rattle.wire.proofs.RoundTrips.{kept-is, kept-long}
 use Rattle.outbound.specs.Outbound.{readPriorityUpdate}
 use Rattle.outbound.proofs.priority_update.read_priority_update.Statement.{statement}
 use Rattle.outbound.proofs.priority_update.read_priority_update.Tie as tie
-
-judge-requires : tie.Need-judge-requires
-judge-requires c κs = search needs
-
-slice-aggregate-taken : tie.Need-slice-aggregate-taken
-slice-aggregate-taken c = search needs
-
-taken-requires : tie.Need-taken-requires
-taken-requires c κs = search needs
 
 parse-priority-update-requires : tie.Need-parse-priority-update-requires
 parse-priority-update-requires c κs =
@@ -28,11 +20,4 @@ returns c =
     cc
 
 pub read-priority-update-spec : {M : Type 1} → statement M
-read-priority-update-spec =
-    tie.close
-    (tie.spec
-    judge-requires
-    slice-aggregate-taken
-    taken-requires
-    parse-priority-update-requires
-    returns)
+read-priority-update-spec = tie.close (tie.spec (search needs) (search needs) unasked parse-priority-update-requires returns)

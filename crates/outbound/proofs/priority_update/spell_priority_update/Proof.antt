@@ -43,11 +43,5 @@ returns c =
 pub spell-priority-update-spec : {M : Type 1} → statement M
 spell-priority-update-spec =
     tie.close
-    (tie.spec
-    put-letter-requires
-    put-long-requires
-    put-token-requires
-    put-integer-requires
-    put-letter-requires-2
-    put-long-requires-2
+    (tie.spec put-letter-requires put-long-requires put-token-requires put-integer-requires put-letter-requires-2 put-long-requires-2
     returns)

@@ -4,19 +4,9 @@ use Rattle.outbound.specs.Outbound.{rejectedOf}
 use Rattle.outbound.proofs.rejected.parse_rejected.Statement.{statement}
 use Rattle.outbound.proofs.rejected.parse_rejected.Tie as tie
 
-be64-requires : tie.Need-be64-requires
-be64-requires c κs = search needs
-
-bytes14-at-requires : tie.Need-bytes14-at-requires
-bytes14-at-requires c κs = search needs
-
-byte-at-requires : tie.Need-byte-at-requires
-byte-at-requires c κs = search needs
-
 returns : tie.Need-returns
 unfolding rejectedOf
 returns c = cc
 
 pub parse-rejected-spec : {M : Type 1} → statement M
-parse-rejected-spec =
-    tie.close (tie.spec be64-requires bytes14-at-requires byte-at-requires returns)
+parse-rejected-spec = tie.close (tie.spec (search needs) (search needs) (search needs) returns)

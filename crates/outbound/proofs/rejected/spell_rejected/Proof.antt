@@ -32,11 +32,4 @@ returns c =
     (stamp .put-long .ensures then token .put-token .ensures then reason .put-letter2 .ensures then ends)
 
 pub spell-rejected-spec : {M : Type 1} → statement M
-spell-rejected-spec =
-    tie.close
-    (tie.spec
-    put-letter-requires
-    put-long-requires
-    put-token-requires
-    put-letter-requires-2
-    returns)
+spell-rejected-spec = tie.close (tie.spec put-letter-requires put-long-requires put-token-requires put-letter-requires-2 returns)

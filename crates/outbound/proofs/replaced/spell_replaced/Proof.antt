@@ -95,23 +95,7 @@ returns c =
 pub spell-replaced-spec : {M : Type 1} → statement M
 spell-replaced-spec =
     tie.close
-    (tie.spec
-    put-letter-requires
-    put-long-requires
-    put-token-requires
-    put-letter-requires-2
-    put-integer-requires
-    put-stock-requires
-    put-integer-requires-2
-    put-integer-requires-3
-    put-firm-requires
-    put-letter-requires-3
-    put-long-requires-2
-    put-letter-requires-4
-    put-letter-requires-5
-    put-integer-requires-4
-    put-letter-requires-6
-    put-letter-requires-7
-    put-token-requires-2
-    put-letter-requires-8
+    (tie.spec put-letter-requires put-long-requires put-token-requires put-letter-requires-2 put-integer-requires put-stock-requires
+    put-integer-requires-2 put-integer-requires-3 put-firm-requires put-letter-requires-3 put-long-requires-2 put-letter-requires-4
+    put-letter-requires-5 put-integer-requires-4 put-letter-requires-6 put-letter-requires-7 put-token-requires-2 put-letter-requires-8
     returns)

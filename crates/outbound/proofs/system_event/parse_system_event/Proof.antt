@@ -4,15 +4,9 @@ use Rattle.outbound.specs.Outbound.{systemEventOf}
 use Rattle.outbound.proofs.system_event.parse_system_event.Statement.{statement}
 use Rattle.outbound.proofs.system_event.parse_system_event.Tie as tie
 
-be64-requires : tie.Need-be64-requires
-be64-requires c κs = search needs
-
-byte-at-requires : tie.Need-byte-at-requires
-byte-at-requires c κs = search needs
-
 returns : tie.Need-returns
 unfolding systemEventOf
 returns c = cc
 
 pub parse-system-event-spec : {M : Type 1} → statement M
-parse-system-event-spec = tie.close (tie.spec be64-requires byte-at-requires returns)
+parse-system-event-spec = tie.close (tie.spec (search needs) (search needs) returns)

@@ -1,19 +1,11 @@
 -- The fields come from legal bytes or from zeros, either as long as the message. Assumes nothing.
+use Rattle.octets.proofs.Needs.{unasked}
 use borrow.Author.Needs.{needs}
 use Rattle.wire.specs.Messages.{systemEvent}
 use Rattle.wire.proofs.RoundTrips.{kept-is, kept-long}
 use Rattle.outbound.specs.Outbound.{readSystemEvent}
 use Rattle.outbound.proofs.system_event.read_system_event.Statement.{statement}
 use Rattle.outbound.proofs.system_event.read_system_event.Tie as tie
-
-judge-requires : tie.Need-judge-requires
-judge-requires c κs = search needs
-
-slice-aggregate-taken : tie.Need-slice-aggregate-taken
-slice-aggregate-taken c = search needs
-
-taken-requires : tie.Need-taken-requires
-taken-requires c κs = search needs
 
 parse-system-event-requires : tie.Need-parse-system-event-requires
 parse-system-event-requires c κs =
@@ -28,11 +20,4 @@ returns c =
     cc
 
 pub read-system-event-spec : {M : Type 1} → statement M
-read-system-event-spec =
-    tie.close
-    (tie.spec
-    judge-requires
-    slice-aggregate-taken
-    taken-requires
-    parse-system-event-requires
-    returns)
+read-system-event-spec = tie.close (tie.spec (search needs) (search needs) unasked parse-system-event-requires returns)

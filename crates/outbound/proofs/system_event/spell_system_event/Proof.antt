@@ -28,5 +28,4 @@ returns c =
     (stamp .put-long .ensures then event .put-letter2 .ensures then ends)
 
 pub spell-system-event-spec : {M : Type 1} → statement M
-spell-system-event-spec =
-    tie.close (tie.spec put-letter-requires put-long-requires put-letter-requires-2 returns)
+spell-system-event-spec = tie.close (tie.spec put-letter-requires put-long-requires put-letter-requires-2 returns)

@@ -1,4 +1,5 @@
 -- The place behind the held bytes is computed once; a put is the two runs from there on. Assumes nothing.
+use Rattle.octets.proofs.Needs.{unasked}
 use mathlib.Core.Path.{refl, sym, ap, _∙_}
 use Prim.Native.Nat.{ℕ, _+_, _<_}
 use native.Mathlib.Omega.{arith}
@@ -17,9 +18,6 @@ use Rattle.outbox.proofs.put.append.Tie as tie
 add-around : tie.Need-add-around
 add-around c = omega (arith, right _ _ (c .before .before .pre .0))
 
-around-requires : tie.Need-around-requires
-around-requires c κs = search needs
-
 -- the place is in the ring
 place : (c : tie.After-around) → c .around .result < length (now (c .before .before .before .args .ring))
 place c =
@@ -35,9 +33,6 @@ add-t8 : tie.Need-add-t8
 unfolding freeBytes
 add-t8 c = let s = c .before .before .before .before .before .before .before in omega (arith, right _ _ (s .pre .0), s .pre .1)
 
-same-length : tie.Need-same-length
-same-length c = search needs
-
 returns : tie.Need-returns
 unfolding marksWith
 returns c =
@@ -51,5 +46,4 @@ returns c =
     )
 
 pub append-spec : {M : Type 1} → statement M
-append-spec =
-    tie.close (tie.spec add-around around-requires copy-around-requires add-t8 same-length returns)
+append-spec = tie.close (tie.spec add-around unasked copy-around-requires add-t8 (search needs) returns)

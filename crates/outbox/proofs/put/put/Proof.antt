@@ -1,4 +1,5 @@
 -- At each return the tests that led there are the guards of `putAnswer`. Assumes nothing.
+use Rattle.octets.proofs.Needs.{unasked}
 use mathlib.Core.Path.{_≡_, refl, sym, ap, _∙_}
 use mathlib.Core.Bool.{true}
 use native.Mathlib.Omega.{arith}
@@ -13,9 +14,6 @@ use Rattle.outbox.proofs.Right.{right}
 use Rattle.outbox.proofs.put.put.Statement.{statement}
 use Rattle.outbox.proofs.put.put.Tie as tie
 
-ring-good-requires : tie.Need-ring-good-requires
-ring-good-requires c κs = search needs
-
 good : (c : tie.Then1) → ringGood (length (now (c .before .before .before .before .args .ring))) (c .before .before .before .before .args .marks) ≡ true
 good c = sym (c .before .ring-good .ensures) ∙ c .if1 .taken
 
@@ -25,15 +23,6 @@ sub-if2 c = omega (arith, right _ _ (good c))
 append-requires : tie.Need-append-requires
 unfolding freeBytes
 append-requires c κs = (good (c .before .before), omega arith)
-
-refused-requires : tie.Need-refused-requires
-refused-requires c κs = search needs
-
-refused-requires-2 : tie.Need-refused-requires-2
-refused-requires-2 c κs = search needs
-
-same-length : tie.Need-same-length
-same-length c = search needs
 
 returns : tie.Need-returns
 unfolding putAnswer putMarks putRing freeBytes ifDone isDone
@@ -51,6 +40,4 @@ unfolding putAnswer putMarks putRing freeBytes ifDone isDone
 returns-3 c = simp (sym (c .before .before .ring-good .ensures) ∙ c .before .if1 .left) (c .refused2 .ensures, refl)
 
 pub put-spec : {M : Type 1} → statement M
-put-spec =
-    tie.close
-    (tie.spec ring-good-requires sub-if2 append-requires refused-requires refused-requires-2 same-length returns returns-2 returns-3)
+put-spec = tie.close (tie.spec unasked sub-if2 append-requires unasked unasked (search needs) returns returns-2 returns-3)

@@ -1,4 +1,5 @@
 -- The part is cut where the held bytes end or where the ring ends, whichever comes first. Assumes nothing.
+use Rattle.octets.proofs.Needs.{unasked}
 use mathlib.Core.Path.{_≡_, refl, sym, ap, _∙_}
 use mathlib.Core.Bool.{true}
 use Prim.Native.Nat.{ℕ, _-_}
@@ -14,23 +15,11 @@ use Rattle.outbox.proofs.Right.{right}
 use Rattle.outbox.proofs.read.read.Statement.{statement}
 use Rattle.outbox.proofs.read.read.Tie as tie
 
-ring-good-requires : tie.Need-ring-good-requires
-ring-good-requires c κs = search needs
-
 good : (c : tie.Then1) → ringGood (length (now (c .before .before .before .args .ring))) (c .before .before .before .args .marks) ≡ true
 good c = sym (c .before .ring-good .ensures) ∙ c .if1 .taken
 
 sub-if2 : tie.Need-sub-if2
 sub-if2 c = omega (arith, right _ _ (good c))
-
-add-end : tie.Need-add-end
-add-end c = search needs
-
-sub-result : tie.Need-sub-result
-sub-result c = search needs
-
-part-result-start : tie.Need-part-result-start
-part-result-start c = search needs
 
 part-result-end : tie.Need-part-result-end
 part-result-end c = omega (arith, right _ _ (good (c .before)))
@@ -40,12 +29,6 @@ sub-result-2 c = omega (arith, right _ _ (good (c .before)))
 
 part-result-start-2 : tie.Need-part-result-start-2
 part-result-start-2 c = omega (arith, right _ _ (good (c .before)))
-
-part-result-end-2 : tie.Need-part-result-end-2
-part-result-end-2 c = search needs
-
-slice-aggregate-result : tie.Need-slice-aggregate-result
-slice-aggregate-result c = search needs
 
 returns : tie.Need-returns
 unfolding readRun readPlace
@@ -70,17 +53,5 @@ returns-3 c =
 pub read-spec : {M : Type 1} → statement M
 read-spec =
     tie.close
-    (tie.spec
-    ring-good-requires
-    sub-if2
-    add-end
-    sub-result
-    part-result-start
-    part-result-end
-    sub-result-2
-    part-result-start-2
-    part-result-end-2
-    slice-aggregate-result
-    returns
-    returns-2
-    returns-3)
+    (tie.spec unasked sub-if2 (search needs) (search needs) (search needs) part-result-end sub-result-2 part-result-start-2 (search needs)
+    (search needs) returns returns-2 returns-3)

@@ -1,8 +1,8 @@
 -- At each return the tests that led there are the guards of `releaseAnswer`. Assumes nothing.
+use Rattle.octets.proofs.Needs.{unasked}
 use mathlib.Core.Path.{_≡_, sym, _∙_}
 use mathlib.Core.Bool.{true}
 use native.Mathlib.Omega.{arith}
-use borrow.Author.Needs.{needs}
 use borrow.Author.Tests.{lt-ltb, le-ltb}
 use Rattle.answers.specs.Answer.{isDone, ifDone}
 use Rattle.outbox.specs.Outbox.{ringGood, releaseAnswer, marksWithout, releaseMarks}
@@ -10,23 +10,11 @@ use Rattle.outbox.proofs.Right.{right}
 use Rattle.outbox.proofs.release.release.Statement.{statement}
 use Rattle.outbox.proofs.release.release.Tie as tie
 
-ring-good-requires : tie.Need-ring-good-requires
-ring-good-requires c κs = search needs
-
 good : (c : tie.Then1) → ringGood (c .before .before .args .n) (c .before .before .args .marks) ≡ true
 good c = sym (c .before .ring-good .ensures) ∙ c .if1 .taken
 
 add-around : tie.Need-add-around
 add-around c = omega (arith, right _ _ (good (c .before)))
-
-around-requires : tie.Need-around-requires
-around-requires c κs = search needs
-
-refused-requires : tie.Need-refused-requires
-refused-requires c κs = search needs
-
-refused-requires-2 : tie.Need-refused-requires-2
-refused-requires-2 c κs = search needs
 
 returns : tie.Need-returns
 unfolding releaseAnswer releaseMarks marksWithout ifDone isDone
@@ -41,5 +29,4 @@ unfolding releaseAnswer releaseMarks marksWithout ifDone isDone
 returns-3 c = simp (sym (c .before .before .ring-good .ensures) ∙ c .before .if1 .left) (c .refused2 .ensures)
 
 pub release-spec : {M : Type 1} → statement M
-release-spec =
-    tie.close (tie.spec ring-good-requires add-around around-requires refused-requires refused-requires-2 returns returns-2 returns-3)
+release-spec = tie.close (tie.spec unasked add-around unasked unasked unasked returns returns-2 returns-3)

@@ -6,9 +6,6 @@ use Rattle.port.proofs.Given.{few, given}
 use Rattle.port.proofs.settings.settings_given.Statement.{statement}
 use Rattle.port.proofs.settings.settings_given.Tie as tie
 
-slice-aggregate-copy : tie.Need-slice-aggregate-copy
-slice-aggregate-copy c = search needs
-
 copy-requires : tie.Need-copy-requires
 unfolding wholeCodes
 copy-requires c κs = few (c .before .before .before .args .firms .now) (c .before .if1 .taken)
@@ -27,5 +24,4 @@ unfolding settingsGiven wholeCodes
 returns-2 c = simp (c .if1 .left)
 
 pub settings-given-spec : {M : Type 1} → statement M
-settings-given-spec =
-    tie.close (tie.spec slice-aggregate-copy copy-requires cast-count returns returns-2)
+settings-given-spec = tie.close (tie.spec (λ c. search needs) copy-requires cast-count returns returns-2)

@@ -1,27 +1,15 @@
 -- Each return is the guard that its tests led to; what is not ignored is live, so something of it is open. Assumes nothing.
+use Rattle.octets.proofs.Needs.{unasked}
 use native.Mathlib.Omega.{arith}
 use Rattle.octets.proofs.Guards.{answered}
 use Rattle.rules.specs.Cancel.{cancelRule}
 use Rattle.rules.proofs.Moments.{cancel-live, cancel-smaller}
-use borrow.Author.Needs.{needs}
 use Rattle.rules.proofs.cancel.cancel.Statement.{statement}
 use Rattle.rules.proofs.cancel.cancel.Tie as tie
-
-cancel-ignored-requires : tie.Need-cancel-ignored-requires
-cancel-ignored-requires c κs = search needs
-
-refused-requires : tie.Need-refused-requires
-refused-requires c κs = search needs
 
 returns : tie.Need-returns
 unfolding cancelRule
 returns c = simp (c .refused .ensures, answered (c .before .before .cancel-ignored .ensures) (c .before .if1 .taken))
-
-is-late-requires : tie.Need-is-late-requires
-is-late-requires c κs = search needs
-
-cancel-late-requires : tie.Need-cancel-late-requires
-cancel-late-requires c κs = search needs
 
 returns-2 : tie.Need-returns-2
 unfolding cancelRule
@@ -41,9 +29,6 @@ canceled-order-requires c κs =
     let smaller = cancel-smaller _ _ heard in
     (omega arith, smaller)
 
-changing-requires : tie.Need-changing-requires
-changing-requires c κs = search needs
-
 returns-3 : tie.Need-returns-3
 unfolding cancelRule
 returns-3 c =
@@ -52,15 +37,4 @@ returns-3 c =
 
 pub cancel-spec : {M : Type 1} → statement M
 cancel-spec =
-    tie.close
-    (tie.spec
-    cancel-ignored-requires
-    refused-requires
-    returns
-    is-late-requires
-    cancel-late-requires
-    returns-2
-    decrement-requires
-    canceled-order-requires
-    changing-requires
-    returns-3)
+    tie.close (tie.spec unasked unasked returns unasked unasked returns-2 decrement-requires canceled-order-requires unasked returns-3)

@@ -6,9 +6,6 @@ use borrow.Author.Needs.{needs}
 use Rattle.rules.proofs.cancel.canceled_order.Statement.{statement}
 use Rattle.rules.proofs.cancel.canceled_order.Tie as tie
 
-decrement-requires : tie.Need-decrement-requires
-decrement-requires c κs = search needs
-
 cut-requires : tie.Need-cut-requires
 unfolding decrement gone
 cut-requires c κs = rw (c .decrement .ensures) (omega arith)
@@ -22,5 +19,4 @@ unfolding canceledOrder
 returns c = simp (c .with-counts .ensures, c .before .cut .ensures, c .before .before .decrement .ensures)
 
 pub canceled-order-spec : {M : Type 1} → statement M
-canceled-order-spec =
-    tie.close (tie.spec decrement-requires cut-requires with-counts-requires returns)
+canceled-order-spec = tie.close (tie.spec (λ c κs. search needs) cut-requires with-counts-requires returns)

@@ -18,9 +18,6 @@ larger-end c =
     let floor = ap (λ (t : Total). t .0) (c .before .before .before .gone .ensures) in
     ⊎-elim (λ t. omega (arith, t .0 .taken, t .1)) (λ e. omega (arith, e .0 .left, e .1)) (c .if1 .came)
 
-gone-requires : tie.Need-gone-requires
-gone-requires c κs = search needs
-
 sub-by : tie.Need-sub-by
 unfolding gone
 sub-by c = omega (arith, larger-end (c .before .before))
@@ -30,4 +27,4 @@ unfolding decrement gone
 returns c = ap removed (omega (arith, larger-end (c .before .before)))
 
 pub decrement-spec : {M : Type 1} → statement M
-decrement-spec = tie.close (tie.spec gone-requires sub-by returns)
+decrement-spec = tie.close (tie.spec (λ c κs. search needs) sub-by returns)

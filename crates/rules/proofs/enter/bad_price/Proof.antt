@@ -1,4 +1,5 @@
 -- A price is made exactly where it is good. Assumes nothing.
+use Rattle.octets.proofs.Needs.{unasked}
 use mathlib.Core.Path.{sym, _∙_}
 use Rattle.wire.specs.Price.{goodPrice, pricedOf}
 use Rattle.rules.specs.Enter.{badPrice}
@@ -7,14 +8,8 @@ use borrow.Author.Needs.{needs}
 use Rattle.rules.proofs.enter.bad_price.Statement.{statement}
 use Rattle.rules.proofs.enter.bad_price.Tie as tie
 
-new-requires : tie.Need-new-requires
-new-requires c κs = search needs
-
 enum-told : tie.Need-enum-told
 enum-told c = search needs
-
-enum-told-2 : tie.Need-enum-told-2
-enum-told-2 c = search needs
 
 returns : tie.Need-returns
 unfolding badPrice pricedOf
@@ -25,4 +20,4 @@ unfolding badPrice pricedOf
 returns-2 c = made-bad (goodPrice (c .before .before .before .args .price) (c .before .before .before .args .cross)) _ (sym (c .before .before .new .ensures) ∙ c .enum-told2 .given .1)
 
 pub bad-price-spec : {M : Type 1} → statement M
-bad-price-spec = tie.close (tie.spec new-requires enum-told enum-told-2 returns returns-2)
+bad-price-spec = tie.close (tie.spec unasked enum-told (λ c. search needs) returns returns-2)

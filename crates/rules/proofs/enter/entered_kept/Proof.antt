@@ -1,15 +1,9 @@
 -- The firm that is meant, and the capacity that one test chooses. Assumes nothing.
+use Rattle.octets.proofs.Needs.{unasked}
 use Rattle.octets.proofs.Guards.{answered}
 use Rattle.rules.specs.Enter.{enteredKept}
-use borrow.Author.Needs.{needs}
 use Rattle.rules.proofs.enter.entered_kept.Statement.{statement}
 use Rattle.rules.proofs.enter.entered_kept.Tie as tie
-
-meant-firm-requires : tie.Need-meant-firm-requires
-meant-firm-requires c κs = search needs
-
-is-capacity-requires : tie.Need-is-capacity-requires
-is-capacity-requires c κs = search needs
 
 returns : tie.Need-returns
 unfolding enteredKept
@@ -20,4 +14,4 @@ unfolding enteredKept
 returns-2 c = simp (c .before .before .meant-firm .ensures, answered (c .before .is-capacity .ensures) (c .if1 .left))
 
 pub entered-kept-spec : {M : Type 1} → statement M
-entered-kept-spec = tie.close (tie.spec meant-firm-requires is-capacity-requires returns returns-2)
+entered-kept-spec = tie.close (tie.spec unasked unasked returns returns-2)

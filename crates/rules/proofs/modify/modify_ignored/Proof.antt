@@ -1,14 +1,11 @@
 -- An order that is not live decides alone; of a live one the gathered tests are the rest of the definition's. Assumes nothing.
+use Rattle.octets.proofs.Needs.{unasked}
 use native.Mathlib.Omega.{arith}
 use borrow.Author.Tests.{not-false}
 use Rattle.octets.proofs.Guards.{denied}
 use Rattle.rules.specs.Modify.{modifyIgnored}
-use borrow.Author.Needs.{needs}
 use Rattle.rules.proofs.modify.modify_ignored.Statement.{statement}
 use Rattle.rules.proofs.modify.modify_ignored.Tie as tie
-
-is-live-requires : tie.Need-is-live-requires
-is-live-requires c κs = search needs
 
 returns : tie.Need-returns
 unfolding modifyIgnored
@@ -17,27 +14,9 @@ returns c = simp (denied (c .before .is-live .ensures) (c .if1 .taken))
 gone-requires : tie.Need-gone-requires
 gone-requires c κs = let shares = c .before .before .pre (not-false _ (denied (c .before .is-live .ensures) (c .if1 .left))) in omega arith
 
-is-open-day-requires : tie.Need-is-open-day-requires
-is-open-day-requires c κs = search needs
-
-is-late-requires : tie.Need-is-late-requires
-is-late-requires c κs = search needs
-
-side-allowed-requires : tie.Need-side-allowed-requires
-side-allowed-requires c κs = search needs
-
 returns-2 : tie.Need-returns-2
 unfolding modifyIgnored
 returns-2 c = simp (denied (c .before .before .before .before .before .before .before .before .before .before .before .before .before .is-live .ensures) (c .before .before .before .before .before .before .before .before .before .before .before .before .if1 .left), c .before .before .before .before .before .before .before .before .before .before .before .gone .ensures, c .before .before .before .before .before .before .before .before .before .before .is-open-day .ensures, c .before .before .before .before .before .before .before .before .before .is-late .ensures, c .before .before .before .before .before .before .before .before .side-allowed .ensures)
 
 pub modify-ignored-spec : {M : Type 1} → statement M
-modify-ignored-spec =
-    tie.close
-    (tie.spec
-    is-live-requires
-    returns
-    gone-requires
-    is-open-day-requires
-    is-late-requires
-    side-allowed-requires
-    returns-2)
+modify-ignored-spec = tie.close (tie.spec unasked returns gone-requires unasked unasked unasked returns-2)

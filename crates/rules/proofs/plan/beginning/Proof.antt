@@ -1,15 +1,12 @@
 -- The plan is field by field the definition's, once `no_order` is known to be no order. Assumes nothing.
-use borrow.Author.Needs.{needs}
+use Rattle.octets.proofs.Needs.{unasked}
 use Rattle.rules.specs.Plan.{beginning}
 use Rattle.rules.proofs.plan.beginning.Statement.{statement}
 use Rattle.rules.proofs.plan.beginning.Tie as tie
-
-no-order-requires : tie.Need-no-order-requires
-no-order-requires c κs = search needs
 
 returns : tie.Need-returns
 unfolding beginning
 returns c = simp (c .no-order .ensures)
 
 pub beginning-spec : {M : Type 1} → statement M
-beginning-spec = tie.close (tie.spec no-order-requires returns)
+beginning-spec = tie.close (tie.spec unasked returns)

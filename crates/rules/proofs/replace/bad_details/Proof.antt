@@ -1,4 +1,5 @@
 -- The first two faults decide alone, since without them there is a new open; the gathered tests are the rest of the definition's. Assumes nothing.
+use Rattle.octets.proofs.Needs.{unasked}
 use mathlib.Core.Path.{subst}
 use Prim.Native.Nat.{_<_, _≤_}
 use borrow.Author.Tests.{le-ltb, lt-ltb}
@@ -9,12 +10,6 @@ use borrow.Author.Needs.{needs}
 use Rattle.rules.proofs.replace.bad_details.Statement.{statement}
 use Rattle.rules.proofs.replace.bad_details.Tie as tie
 
-gone-requires : tie.Need-gone-requires
-gone-requires c κs = search needs
-
-bad-shares-requires : tie.Need-bad-shares-requires
-bad-shares-requires c κs = search needs
-
 returns : tie.Need-returns
 unfolding badDetails
 returns c = simp (answered (c .before .bad-shares .ensures) (c .if1 .taken))
@@ -24,18 +19,6 @@ unfolding badDetails
 returns-2 c =
     simp
     (answered (c .before .before .before .before .bad-shares .ensures) (c .before .before .before .if1 .left), le-ltb _ _ (subst (λ (t : Total). c .before .before .before .before .before .before .args .e .shares .0 ≤ t .0) (c .before .before .before .before .before .gone .ensures) (c .if2 .taken)))
-
-sub-t9 : tie.Need-sub-t9
-sub-t9 c = search needs
-
-bad-price-requires : tie.Need-bad-price-requires
-bad-price-requires c κs = search needs
-
-bad-display-requires : tie.Need-bad-display-requires
-bad-display-requires c κs = search needs
-
-bad-minimum-requires : tie.Need-bad-minimum-requires
-bad-minimum-requires c κs = search needs
 
 returns-3 : tie.Need-returns-3
 unfolding badDetails
@@ -51,14 +34,4 @@ returns-3 c =
 
 pub bad-details-spec : {M : Type 1} → statement M
 bad-details-spec =
-    tie.close
-    (tie.spec
-    gone-requires
-    bad-shares-requires
-    returns
-    returns-2
-    sub-t9
-    bad-price-requires
-    bad-display-requires
-    bad-minimum-requires
-    returns-3)
+    tie.close (tie.spec (λ c κs. search needs) unasked returns returns-2 (λ c. search needs) unasked unasked unasked returns-3)

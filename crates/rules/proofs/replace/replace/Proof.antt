@@ -1,47 +1,23 @@
 -- Each return is the guard that its tests led to. Assumes nothing.
+use Rattle.octets.proofs.Needs.{unasked}
 use borrow.Author.Tests.{not-false}
 use Rattle.octets.proofs.Guards.{answered, denied}
 use Rattle.rules.specs.Replace.{replaceRule}
-use borrow.Author.Needs.{needs}
 use Rattle.rules.proofs.replace.replace.Statement.{statement}
 use Rattle.rules.proofs.replace.replace.Tie as tie
-
-is-live-requires : tie.Need-is-live-requires
-is-live-requires c κs = search needs
-
-refused-requires : tie.Need-refused-requires
-refused-requires c κs = search needs
 
 returns : tie.Need-returns
 unfolding replaceRule
 returns c = simp (c .refused .ensures, denied (c .before .before .is-live .ensures) (c .before .if1 .taken))
 
-is-used-requires : tie.Need-is-used-requires
-is-used-requires c κs = search needs
-
-refused-requires-2 : tie.Need-refused-requires-2
-refused-requires-2 c κs = search needs
-
 returns-2 : tie.Need-returns-2
 unfolding replaceRule
 returns-2 c = simp (c .refused2 .ensures, denied (c .before .before .before .before .is-live .ensures) (c .before .before .before .if1 .left), answered (c .before .before .is-used .ensures) (c .before .if2 .taken))
-
-is-open-day-requires : tie.Need-is-open-day-requires
-is-open-day-requires c κs = search needs
-
-rejecting-requires : tie.Need-rejecting-requires
-rejecting-requires c κs = search needs
 
 returns-3 : tie.Need-returns-3
 unfolding replaceRule
 returns-3 c =
     simp (c .rejecting .ensures, denied (c .before .before .before .before .before .before .before .is-live .ensures) (c .before .before .before .before .before .before .if1 .left), answered (c .before .before .before .before .before .is-used .ensures) (c .before .before .before .before .if2 .left), denied (c .before .before .is-open-day .ensures) (c .before .if3 .taken))
-
-is-late-requires : tie.Need-is-late-requires
-is-late-requires c κs = search needs
-
-rejecting-requires-2 : tie.Need-rejecting-requires-2
-rejecting-requires-2 c κs = search needs
 
 returns-4 : tie.Need-returns-4
 unfolding replaceRule
@@ -61,18 +37,5 @@ returns-5 c =
 pub replace-spec : {M : Type 1} → statement M
 replace-spec =
     tie.close
-    (tie.spec
-    is-live-requires
-    refused-requires
-    returns
-    is-used-requires
-    refused-requires-2
-    returns-2
-    is-open-day-requires
-    rejecting-requires
-    returns-3
-    is-late-requires
-    rejecting-requires-2
-    returns-4
-    replace-open-requires
+    (tie.spec unasked unasked returns unasked unasked returns-2 unasked unasked returns-3 unasked unasked returns-4 replace-open-requires
     returns-5)

@@ -1,4 +1,5 @@
 -- What is spelled is sent whole, at its length. Assumes nothing.
+use Rattle.octets.proofs.Needs.{unasked}
 use native.Mathlib.Omega.{arith}
 use Rattle.rules.specs.Sent.{canceledNotice}
 use Rattle.rules.proofs.Spelled.{spelled}
@@ -6,15 +7,9 @@ use borrow.Author.Needs.{needs}
 use Rattle.rules.proofs.sent.canceled_sent.Statement.{statement}
 use Rattle.rules.proofs.sent.canceled_sent.Tie as tie
 
-spell-canceled-requires : tie.Need-spell-canceled-requires
-spell-canceled-requires c κs = search needs
-
-size-requires : tie.Need-size-requires
-size-requires c κs = search needs
-
 returns : tie.Need-returns
 unfolding canceledNotice
 returns c = spelled (c .before .spell-canceled .ensures) (c .size .ensures) (omega arith)
 
 pub canceled-sent-spec : {M : Type 1} → statement M
-canceled-sent-spec = tie.close (tie.spec spell-canceled-requires size-requires returns)
+canceled-sent-spec = tie.close (tie.spec unasked (λ c κs. search needs) returns)

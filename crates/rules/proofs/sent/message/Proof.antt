@@ -4,12 +4,9 @@ use borrow.Author.Needs.{needs}
 use Rattle.rules.proofs.sent.message.Statement.{statement}
 use Rattle.rules.proofs.sent.message.Tie as tie
 
-notice-sent-requires : tie.Need-notice-sent-requires
-notice-sent-requires c κs = search needs
-
 returns : tie.Need-returns
 unfolding message
 returns c = c .notice-sent .ensures
 
 pub message-spec : {M : Type 1} → statement M
-message-spec = tie.close (tie.spec notice-sent-requires returns)
+message-spec = tie.close (tie.spec (λ c κs. search needs) returns)

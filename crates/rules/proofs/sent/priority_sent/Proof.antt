@@ -1,4 +1,5 @@
 -- What is spelled is sent whole, at its length. Assumes nothing.
+use Rattle.octets.proofs.Needs.{unasked}
 use native.Mathlib.Omega.{arith}
 use Rattle.rules.specs.Sent.{priorityNotice}
 use Rattle.rules.proofs.Spelled.{spelled}
@@ -6,15 +7,9 @@ use borrow.Author.Needs.{needs}
 use Rattle.rules.proofs.sent.priority_sent.Statement.{statement}
 use Rattle.rules.proofs.sent.priority_sent.Tie as tie
 
-spell-priority-update-requires : tie.Need-spell-priority-update-requires
-spell-priority-update-requires c κs = search needs
-
-size-requires : tie.Need-size-requires
-size-requires c κs = search needs
-
 returns : tie.Need-returns
 unfolding priorityNotice
 returns c = spelled (c .before .spell-priority-update .ensures) (c .size .ensures) (omega arith)
 
 pub priority-sent-spec : {M : Type 1} → statement M
-priority-sent-spec = tie.close (tie.spec spell-priority-update-requires size-requires returns)
+priority-sent-spec = tie.close (tie.spec unasked (λ c κs. search needs) returns)

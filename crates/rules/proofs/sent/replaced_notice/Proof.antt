@@ -4,12 +4,9 @@ use borrow.Author.Needs.{needs}
 use Rattle.rules.proofs.sent.replaced_notice.Statement.{statement}
 use Rattle.rules.proofs.sent.replaced_notice.Tie as tie
 
-open-shares-requires : tie.Need-open-shares-requires
-open-shares-requires c κs = search needs
-
 returns : tie.Need-returns
 unfolding replacedNotice
 returns c = simp (c .before .before .before .open-shares .ensures)
 
 pub replaced-notice-spec : {M : Type 1} → statement M
-replaced-notice-spec = tie.close (tie.spec open-shares-requires returns)
+replaced-notice-spec = tie.close (tie.spec (λ c κs. search needs) returns)

@@ -1,4 +1,5 @@
 -- What is spelled is sent whole, at its length. Assumes nothing.
+use Rattle.octets.proofs.Needs.{unasked}
 use native.Mathlib.Omega.{arith}
 use Rattle.rules.specs.Sent.{selfMatchNotice}
 use Rattle.rules.proofs.Spelled.{spelled}
@@ -6,15 +7,9 @@ use borrow.Author.Needs.{needs}
 use Rattle.rules.proofs.sent.self_match_sent.Statement.{statement}
 use Rattle.rules.proofs.sent.self_match_sent.Tie as tie
 
-spell-aiq-cancelled-requires : tie.Need-spell-aiq-cancelled-requires
-spell-aiq-cancelled-requires c κs = search needs
-
-size-requires : tie.Need-size-requires
-size-requires c κs = search needs
-
 returns : tie.Need-returns
 unfolding selfMatchNotice
 returns c = spelled (c .before .spell-aiq-cancelled .ensures) (c .size .ensures) (omega arith)
 
 pub self-match-sent-spec : {M : Type 1} → statement M
-self-match-sent-spec = tie.close (tie.spec spell-aiq-cancelled-requires size-requires returns)
+self-match-sent-spec = tie.close (tie.spec unasked (λ c κs. search needs) returns)

@@ -5,12 +5,9 @@ use borrow.Author.Needs.{needs}
 use Rattle.table.proofs.counts.executing.Statement.{statement}
 use Rattle.table.proofs.counts.executing.Tie as tie
 
-add-t6 : tie.Need-add-t6
-add-t6 c = search needs
-
 returns : tie.Need-returns
 unfolding executing
 returns c = refl
 
 pub executing-spec : {M : Type 1} → statement M
-executing-spec = tie.close (tie.spec add-t6 returns)
+executing-spec = tie.close (tie.spec (search needs) returns)

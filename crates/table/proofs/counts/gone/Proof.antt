@@ -5,12 +5,9 @@ use borrow.Author.Needs.{needs}
 use Rattle.table.proofs.counts.gone.Statement.{statement}
 use Rattle.table.proofs.counts.gone.Tie as tie
 
-add-t2 : tie.Need-add-t2
-add-t2 c = search needs
-
 returns : tie.Need-returns
 unfolding gone
 returns c = refl
 
 pub gone-spec : {M : Type 1} → statement M
-gone-spec = tie.close (tie.spec add-t2 returns)
+gone-spec = tie.close (tie.spec (search needs) returns)

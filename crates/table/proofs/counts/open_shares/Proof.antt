@@ -9,9 +9,6 @@ use Rattle.table.specs.Counts.{gone, openShares}
 use Rattle.table.proofs.counts.open_shares.Statement.{statement}
 use Rattle.table.proofs.counts.open_shares.Tie as tie
 
-gone-requires : tie.Need-gone-requires
-gone-requires c κs = search needs
-
 sub-t3 : tie.Need-sub-t3
 unfolding gone
 sub-t3 c = rw (c .before .before .gone .ensures) (c .before .before .before .pre)
@@ -21,4 +18,4 @@ unfolding openShares
 returns c = ap (λ (g : Total). (c .before .before .before .args .s .liable) less g) (c .before .before .gone .ensures)
 
 pub open-shares-spec : {M : Type 1} → statement M
-open-shares-spec = tie.close (tie.spec gone-requires sub-t3 returns)
+open-shares-spec = tie.close (tie.spec (search needs) sub-t3 returns)

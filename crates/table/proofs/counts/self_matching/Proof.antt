@@ -5,12 +5,9 @@ use borrow.Author.Needs.{needs}
 use Rattle.table.proofs.counts.self_matching.Statement.{statement}
 use Rattle.table.proofs.counts.self_matching.Tie as tie
 
-add-t6 : tie.Need-add-t6
-add-t6 c = search needs
-
 returns : tie.Need-returns
 unfolding selfMatching
 returns c = refl
 
 pub self-matching-spec : {M : Type 1} → statement M
-self-matching-spec = tie.close (tie.spec add-t6 returns)
+self-matching-spec = tie.close (tie.spec (search needs) returns)

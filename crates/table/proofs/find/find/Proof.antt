@@ -6,12 +6,6 @@ use borrow.Author.Needs.{needs}
 use Rattle.table.proofs.find.find.Statement.{statement}
 use Rattle.table.proofs.find.find.Tie as tie
 
-used-requires : tie.Need-used-requires
-used-requires c κs = search needs
-
-first-requires : tie.Need-first-requires
-first-requires c κs = search needs
-
 returns : tie.Need-returns
 unfolding placeOf
 returns c =
@@ -19,4 +13,4 @@ returns c =
     c .first .ensures ∙ ap (λ (n : ℕ). placeFrom (a .table .now) (a .token) n 0) (c .before .used .ensures)
 
 pub find-spec : {M : Type 1} → statement M
-find-spec = tie.close (tie.spec used-requires first-requires returns)
+find-spec = tie.close (tie.spec (search needs) (search needs) returns)

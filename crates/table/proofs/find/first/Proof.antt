@@ -27,23 +27,11 @@ abbrev μ-loop : tie.MeasureT-loop
 loop-holds : tie.Need-loop-holds Inv-loop μ-loop
 loop-holds c = (omega arith, rw sub-zero)
 
-record-bytes-requires : tie.Need-record-bytes-requires Inv-loop μ-loop
-record-bytes-requires c κs = search needs
-
-has-token-requires : tie.Need-has-token-requires Inv-loop μ-loop
-has-token-requires c κs = search needs
-
 returns : tie.Need-returns Inv-loop μ-loop
 unfolding orderAt
 returns c =
     let l = c .before .before .before .before .loop in
     sym (l .inv .1 ∙ turn _ _ _ (l .i) true (omega arith) (sym (ap (λ r. same (orderOf r .token) (c .before .before .before .before .before .before .args .token)) (c .before .before .record-bytes .ensures .0)) ∙ sym (c .before .has-token .ensures) ∙ c .if1 .taken))
-
-add-i : tie.Need-add-i Inv-loop μ-loop
-add-i c = search needs
-
-loop-less : tie.Need-loop-less Inv-loop μ-loop
-loop-less c = search needs
 
 loop-again : tie.Need-loop-again Inv-loop μ-loop
 unfolding orderAt
@@ -61,15 +49,4 @@ returns-2 c =
 
 pub first-spec : {M : Type 1} → statement M
 first-spec =
-    tie.close
-    (tie.spec
-    Inv-loop
-    μ-loop
-    loop-holds
-    record-bytes-requires
-    has-token-requires
-    returns
-    add-i
-    loop-less
-    loop-again
-    returns-2)
+    tie.close (tie.spec Inv-loop μ-loop loop-holds (search needs) (search needs) returns (search needs) (search needs) loop-again returns-2)

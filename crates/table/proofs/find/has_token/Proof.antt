@@ -6,33 +6,6 @@ use borrow.Author.Needs.{needs}
 use Rattle.table.proofs.find.has_token.Statement.{statement}
 use Rattle.table.proofs.find.has_token.Tie as tie
 
-shared-slice-read-if1 : tie.Need-shared-slice-read-if1
-shared-slice-read-if1 c = search needs
-
-array-read-if1 : tie.Need-array-read-if1
-array-read-if1 c = search needs
-
-shared-slice-read-if1-2 : tie.Need-shared-slice-read-if1-2
-shared-slice-read-if1-2 c = search needs
-
-array-read-if1-2 : tie.Need-array-read-if1-2
-array-read-if1-2 c = search needs
-
-shared-slice-read-if1-3 : tie.Need-shared-slice-read-if1-3
-shared-slice-read-if1-3 c = search needs
-
-array-read-if1-3 : tie.Need-array-read-if1-3
-array-read-if1-3 c = search needs
-
-shared-slice-read-if1-4 : tie.Need-shared-slice-read-if1-4
-shared-slice-read-if1-4 c = search needs
-
-array-read-if1-4 : tie.Need-array-read-if1-4
-array-read-if1-4 c = search needs
-
-token-to-requires : tie.Need-token-to-requires
-token-to-requires c κs = search needs
-
 returns : tie.Need-returns
 returns c = c .token-to .ensures ∙ sym (last-four-same _ _ (omega (arith, c .before .before .before .before .before .before .before .pre)) (omega (arith, c .before .before .before .before .before .before .before)) (c .before .if1 .taken))
 
@@ -42,15 +15,5 @@ returns-2 c = sym (last-four-differ _ _ (omega (arith, c .before .before .before
 pub has-token-spec : {M : Type 1} → statement M
 has-token-spec =
     tie.close
-    (tie.spec
-    shared-slice-read-if1
-    array-read-if1
-    shared-slice-read-if1-2
-    array-read-if1-2
-    shared-slice-read-if1-3
-    array-read-if1-3
-    shared-slice-read-if1-4
-    array-read-if1-4
-    token-to-requires
-    returns
-    returns-2)
+    (tie.spec (search needs) (search needs) (search needs) (search needs) (search needs) (search needs) (search needs) (search needs)
+    (search needs) returns returns-2)

@@ -1,4 +1,5 @@
 -- A place below the used records has an order, any other has none.
+use Rattle.octets.proofs.Needs.{unasked}
 use mathlib.Core.Path.{sym, _∙_}
 use Prim.Native.Nat.{_≤_, _<_}
 use borrow.Author.Tests.{lt-ltb, le-ltb}
@@ -6,15 +7,6 @@ use Rattle.table.specs.Table.{header, orderFrom}
 use borrow.Author.Needs.{needs}
 use Rattle.table.proofs.find.order_from.Statement.{statement}
 use Rattle.table.proofs.find.order_from.Tie as tie
-
-used-requires : tie.Need-used-requires
-used-requires c κs = search needs
-
-order-at-requires : tie.Need-order-at-requires
-order-at-requires c κs = search needs
-
-no-order-requires : tie.Need-no-order-requires
-no-order-requires c κs = search needs
 
 returns : tie.Need-returns
 unfolding orderFrom
@@ -31,5 +23,4 @@ returns-2 c =
     c .no-order .ensures ∙ sym (rw (le-ltb _ _ e))
 
 pub order-from-spec : {M : Type 1} → statement M
-order-from-spec =
-    tie.close (tie.spec used-requires order-at-requires no-order-requires returns returns-2)
+order-from-spec = tie.close (tie.spec (search needs) (search needs) unasked returns returns-2)

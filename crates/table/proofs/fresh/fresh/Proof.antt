@@ -1,4 +1,5 @@
 -- Both refusals leave the table; else the header is stored over zeros.
+use Rattle.octets.proofs.Needs.{unasked}
 use mathlib.Core.Path.{sym, ap, _∙_}
 use Prim.Native.Nat.{ℕ}
 use native.Mathlib.Omega.{arith}
@@ -12,15 +13,6 @@ use borrow.Author.Needs.{needs}
 use Rattle.table.proofs.fresh.fresh.Statement.{statement}
 use Rattle.table.proofs.fresh.fresh.Tie as tie
 
-size-good-requires : tie.Need-size-good-requires
-size-good-requires c κs = search needs
-
-settings-good-requires : tie.Need-settings-good-requires
-settings-good-requires c κs = search needs
-
-clear-requires : tie.Need-clear-requires
-clear-requires c κs = search needs
-
 fresh-header-requires : tie.Need-fresh-header-requires
 fresh-header-requires c κs =
     let s = c .before .before .before .before .before .before .before .before .before .before .before .args .settings in
@@ -33,9 +25,6 @@ store-header-requires c κs =
     let size = of-size t (sym (c .before .before .before .before .before .before .before .before .before .size-good .ensures) ∙ c .before .before .before .before .before .before .before .before .if1 .taken) in
     omega (arith, ap length (c .before .before .before .before .clear .ensures), length-replicate {A = ℕ} (length t) 0)
 
-same-length : tie.Need-same-length
-same-length c = search needs
-
 returns : tie.Need-returns
 returns c =
     let a = c .before .before .before .before .before .before .before .before .before .before .before .before .before .before .before .args in
@@ -46,18 +35,12 @@ returns c =
     let d = fresh-done t (a .settings) size good (omega arith) in
     (d .0, c .before .before .store-header .ensures ∙ ap (storeHeader (c .before .before .before .before .before .before .before .clear .last .0)) (c .before .before .before .fresh-header .ensures) ∙ ap (λ l. storeHeader l (freshHeader (a .settings))) (c .before .before .before .before .before .before .before .clear .ensures) ∙ d .1)
 
-same-length-2 : tie.Need-same-length-2
-same-length-2 c = search needs
-
 returns-2 : tie.Need-returns-2
 returns-2 c =
     let a = c .before .before .before .before .before .before .args in
     let size = sym (c .before .before .before .size-good .ensures) ∙ c .before .before .if1 .taken in
     let bad = sym (c .before .settings-good .ensures) ∙ c .if2 .left in
     fresh-bad-settings (a .table .now) (a .settings) size bad
-
-same-length-3 : tie.Need-same-length-3
-same-length-3 c = search needs
 
 returns-3 : tie.Need-returns-3
 returns-3 c =
@@ -67,15 +50,5 @@ returns-3 c =
 pub fresh-spec : {M : Type 1} → statement M
 fresh-spec =
     tie.close
-    (tie.spec
-    size-good-requires
-    settings-good-requires
-    clear-requires
-    fresh-header-requires
-    store-header-requires
-    same-length
-    returns
-    same-length-2
-    returns-2
-    same-length-3
-    returns-3)
+    (tie.spec unasked unasked (search needs) fresh-header-requires store-header-requires (search needs) returns (search needs) returns-2
+    (search needs) returns-3)

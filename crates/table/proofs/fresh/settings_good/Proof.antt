@@ -7,9 +7,6 @@ use borrow.Author.Needs.{needs}
 use Rattle.table.proofs.fresh.settings_good.Statement.{statement}
 use Rattle.table.proofs.fresh.settings_good.Tie as tie
 
-cast-count : tie.Need-cast-count
-cast-count c = search needs
-
 firms-shaped-requires : tie.Need-firms-shaped-requires
 firms-shaped-requires c κs = most-firms (c .before .before .before .args .settings) (c .before .if1 .taken)
 
@@ -24,4 +21,4 @@ returns-2 c =
     sym (settings-tests s ∙ ap (λ (t : Bool). t && firmsShaped (s .firms) (s .count)) (c .if1 .left))
 
 pub settings-good-spec : {M : Type 1} → statement M
-settings-good-spec = tie.close (tie.spec cast-count firms-shaped-requires returns returns-2)
+settings-good-spec = tie.close (tie.spec (search needs) firms-shaped-requires returns returns-2)

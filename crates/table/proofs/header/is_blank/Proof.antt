@@ -11,18 +11,6 @@ use borrow.Author.Needs.{needs}
 use Rattle.table.proofs.header.is_blank.Statement.{statement}
 use Rattle.table.proofs.header.is_blank.Tie as tie
 
-array-read-result : tie.Need-array-read-result
-array-read-result c = search needs
-
-array-read-result-2 : tie.Need-array-read-result-2
-array-read-result-2 c = search needs
-
-array-read-result-3 : tie.Need-array-read-result-3
-array-read-result-3 c = search needs
-
-array-read-result-4 : tie.Need-array-read-result-4
-array-read-result-4 c = search needs
-
 returns : tie.Need-returns
 unfolding isBlank allBelow
 returns c =
@@ -30,11 +18,4 @@ returns c =
     sym (are-below 32 (c .args .t1) ∙ ap (λ (n : ℕ). allBelow n (λ k. eqb (getD (c .args .t1) k 0) 32)) e)
 
 pub is-blank-spec : {M : Type 1} → statement M
-is-blank-spec =
-    tie.close
-    (tie.spec
-    array-read-result
-    array-read-result-2
-    array-read-result-3
-    array-read-result-4
-    returns)
+is-blank-spec = tie.close (tie.spec (search needs) (search needs) (search needs) (search needs) returns)

@@ -1,4 +1,5 @@
 -- The loop's invariant: no firm before place k is this one. The measure is what is left of the count.
+use Rattle.octets.proofs.Needs.{unasked}
 use mathlib.Core.Path.{_≡_, refl, sym}
 use mathlib.Core.Bool.{false}
 use Prim.Native.Nat.{_-_, _≤_}
@@ -17,18 +18,9 @@ Inv-loop firm firms count k₀ k = (k ≤ count) × (someBelow k (λ j. same (fi
 abbrev μ-loop : tie.MeasureT-loop
 μ-loop firm firms count k₀ k = count - k
 
-cast-count : tie.Need-cast-count Inv-loop μ-loop
-cast-count c = search needs
-
 loop-holds : tie.Need-loop-holds Inv-loop μ-loop
 unfolding someBelow
 loop-holds c = (omega arith, refl)
-
-firm-at-requires : tie.Need-firm-at-requires Inv-loop μ-loop
-firm-at-requires c κs = search needs
-
-same-firm-requires : tie.Need-same-firm-requires Inv-loop μ-loop
-same-firm-requires c κs = search needs
 
 returns : tie.Need-returns Inv-loop μ-loop
 unfolding isListed
@@ -36,12 +28,6 @@ returns c =
     let a = c .before .before .before .before .before .before .before .args in
     let l = c .before .before .before .before .loop in
     sym (some-true (λ j. same (firmAt (a .h .firms) j) (a .firm)) (a .h .count) (l .k) (omega arith) (cc))
-
-add-k : tie.Need-add-k Inv-loop μ-loop
-add-k c = search needs
-
-loop-less : tie.Need-loop-less Inv-loop μ-loop
-loop-less c = search needs
 
 loop-again : tie.Need-loop-again Inv-loop μ-loop
 loop-again c =
@@ -59,15 +45,4 @@ returns-2 c =
 pub is-listed-spec : {M : Type 1} → statement M
 is-listed-spec =
     tie.close
-    (tie.spec
-    Inv-loop
-    μ-loop
-    cast-count
-    loop-holds
-    firm-at-requires
-    same-firm-requires
-    returns
-    add-k
-    loop-less
-    loop-again
-    returns-2)
+    (tie.spec Inv-loop μ-loop (search needs) loop-holds (search needs) unasked returns (search needs) (search needs) loop-again returns-2)

@@ -1,4 +1,5 @@
 -- A blank firm is the first of the list, any other is itself.
+use Rattle.octets.proofs.Needs.{unasked}
 use mathlib.Core.Path.{_≡_, sym, _∙_}
 use mathlib.Core.Bool.{true, false}
 use Rattle.table.specs.Header.{isBlank, meantFirm}
@@ -6,12 +7,6 @@ use borrow.Author.Needs.{needs}
 use Rattle.table.specs.Header.{meantFirm}
 use Rattle.table.proofs.header.meant_firm.Statement.{statement}
 use Rattle.table.proofs.header.meant_firm.Tie as tie
-
-is-blank-requires : tie.Need-is-blank-requires
-is-blank-requires c κs = search needs
-
-firm-at-requires : tie.Need-firm-at-requires
-firm-at-requires c κs = search needs
 
 returns : tie.Need-returns
 unfolding meantFirm
@@ -27,4 +22,4 @@ returns-2 c =
     sym (rw b)
 
 pub meant-firm-spec : {M : Type 1} → statement M
-meant-firm-spec = tie.close (tie.spec is-blank-requires firm-at-requires returns returns-2)
+meant-firm-spec = tie.close (tie.spec unasked (search needs) returns returns-2)

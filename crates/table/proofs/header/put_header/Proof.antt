@@ -11,15 +11,6 @@ use borrow.Author.Needs.{needs}
 use Rattle.table.proofs.header.put_header.Statement.{statement}
 use Rattle.table.proofs.header.put_header.Tie as tie
 
-put-moments-requires : tie.Need-put-moments-requires
-put-moments-requires c κs = search needs
-
-put-standing-requires : tie.Need-put-standing-requires
-put-standing-requires c κs = search needs
-
-same-length : tie.Need-same-length
-same-length c = search needs
-
 returns : tie.Need-returns
 returns c =
     let p2 = c .before .before in
@@ -34,5 +25,4 @@ returns c =
     (written-all pieces w2 ∙ put-whole (a .s .now) (joined pieces) (omega (arith, long, s .pre)) ∙ sym (header-runs h), ap length (header-runs h) ∙ long)
 
 pub put-header-spec : {M : Type 1} → statement M
-put-header-spec =
-    tie.close (tie.spec put-moments-requires put-standing-requires same-length returns)
+put-header-spec = tie.close (tie.spec (search needs) (search needs) (search needs) returns)

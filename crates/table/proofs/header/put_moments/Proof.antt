@@ -8,24 +8,6 @@ use borrow.Author.Needs.{needs}
 use Rattle.table.proofs.header.put_moments.Statement.{statement}
 use Rattle.table.proofs.header.put_moments.Tie as tie
 
-put-byte-requires : tie.Need-put-byte-requires
-put-byte-requires c κs = search needs
-
-put-byte-requires-2 : tie.Need-put-byte-requires-2
-put-byte-requires-2 c κs = search needs
-
-put-number-requires : tie.Need-put-number-requires
-put-number-requires c κs = search needs
-
-put-be32-requires : tie.Need-put-be32-requires
-put-be32-requires c κs = search needs
-
-put-be64-requires : tie.Need-put-be64-requires
-put-be64-requires c κs = search needs
-
-same-length : tie.Need-same-length
-same-length c = search needs
-
 returns : tie.Need-returns
 unfolding moments
 returns c =
@@ -46,13 +28,4 @@ returns c =
     (written-all pieces w5, written-long pieces w5)
 
 pub put-moments-spec : {M : Type 1} → statement M
-put-moments-spec =
-    tie.close
-    (tie.spec
-    put-byte-requires
-    put-byte-requires-2
-    put-number-requires
-    put-be32-requires
-    put-be64-requires
-    same-length
-    returns)
+put-moments-spec = tie.close (tie.spec (search needs) (search needs) (search needs) (search needs) (search needs) (search needs) returns)

@@ -8,21 +8,6 @@ use borrow.Author.Needs.{needs}
 use Rattle.table.proofs.header.put_standing.Statement.{statement}
 use Rattle.table.proofs.header.put_standing.Tie as tie
 
-put-be64-requires : tie.Need-put-be64-requires
-put-be64-requires c κs = search needs
-
-put-be32-requires : tie.Need-put-be32-requires
-put-be32-requires c κs = search needs
-
-put-bytes32-requires : tie.Need-put-bytes32-requires
-put-bytes32-requires c κs = search needs
-
-put-be32-requires-2 : tie.Need-put-be32-requires-2
-put-be32-requires-2 c κs = search needs
-
-same-length : tie.Need-same-length
-same-length c = search needs
-
 returns : tie.Need-returns
 unfolding standing
 returns c =
@@ -41,12 +26,4 @@ returns c =
     (written-all pieces w4, written-long pieces w4)
 
 pub put-standing-spec : {M : Type 1} → statement M
-put-standing-spec =
-    tie.close
-    (tie.spec
-    put-be64-requires
-    put-be32-requires
-    put-bytes32-requires
-    put-be32-requires-2
-    same-length
-    returns)
+put-standing-spec = tie.close (tie.spec (search needs) (search needs) (search needs) (search needs) (search needs) returns)

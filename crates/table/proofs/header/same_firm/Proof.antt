@@ -10,30 +10,6 @@ use borrow.Author.Needs.{needs}
 use Rattle.table.proofs.header.same_firm.Statement.{statement}
 use Rattle.table.proofs.header.same_firm.Tie as tie
 
-array-read-result : tie.Need-array-read-result
-array-read-result c = search needs
-
-array-read-result-2 : tie.Need-array-read-result-2
-array-read-result-2 c = search needs
-
-array-read-result-3 : tie.Need-array-read-result-3
-array-read-result-3 c = search needs
-
-array-read-result-4 : tie.Need-array-read-result-4
-array-read-result-4 c = search needs
-
-array-read-result-5 : tie.Need-array-read-result-5
-array-read-result-5 c = search needs
-
-array-read-result-6 : tie.Need-array-read-result-6
-array-read-result-6 c = search needs
-
-array-read-result-7 : tie.Need-array-read-result-7
-array-read-result-7 c = search needs
-
-array-read-result-8 : tie.Need-array-read-result-8
-array-read-result-8 c = search needs
-
 returns : tie.Need-returns
 unfolding allBelow
 returns c =
@@ -44,13 +20,5 @@ returns c =
 pub same-firm-spec : {M : Type 1} → statement M
 same-firm-spec =
     tie.close
-    (tie.spec
-    array-read-result
-    array-read-result-2
-    array-read-result-3
-    array-read-result-4
-    array-read-result-5
-    array-read-result-6
-    array-read-result-7
-    array-read-result-8
+    (tie.spec (search needs) (search needs) (search needs) (search needs) (search needs) (search needs) (search needs) (search needs)
     returns)

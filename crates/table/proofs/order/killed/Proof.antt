@@ -1,4 +1,5 @@
 -- What is left of liable is what is gone, so that nothing is open.
+use Rattle.octets.proofs.Needs.{unasked}
 use mathlib.Core.Path.{_≡_, ap, _∙_}
 use native.Mathlib.Omega.{arith}
 use Rattle.table.specs.Counts.{gone, withLiable}
@@ -11,12 +12,6 @@ use Rattle.table.proofs.order.killed.Tie as tie
 left-with-gone : (c : tie.After-with-liable) → c .with-liable .result ≡ withLiable (c .before .before .before .args .o .shares) (gone (c .before .before .before .args .o .shares))
 left-with-gone c = c .with-liable .ensures ∙ ap (withLiable (c .before .before .before .args .o .shares)) (c .before .gone .ensures)
 
-gone-requires : tie.Need-gone-requires
-gone-requires c κs = search needs
-
-with-liable-requires : tie.Need-with-liable-requires
-with-liable-requires c κs = search needs
-
 with-counts-requires : tie.Need-with-counts-requires
 unfolding withLiable gone
 with-counts-requires c κs =
@@ -28,4 +23,4 @@ returns c =
     c .with-counts .ensures ∙ ap (withShares (c .before .before .before .before .args .o)) (left-with-gone (c .before))
 
 pub killed-spec : {M : Type 1} → statement M
-killed-spec = tie.close (tie.spec gone-requires with-liable-requires with-counts-requires returns)
+killed-spec = tie.close (tie.spec (search needs) unasked with-counts-requires returns)

@@ -17,9 +17,6 @@ nothing-open c = eq-eqb _ 0 (sym (ap (λ (d : Removed). d .0) (c .before .before
 something-open : (c : tie.Else1) → eqb (openShares (c .before .before .before .before .before .args .shares) .0) 0 ≡ false
 something-open c = ne-eqb _ 0 (λ e. c .if1 .left (ap (λ (d : Removed). d .0) (c .before .before .open-shares .ensures) ∙ e))
 
-open-shares-requires : tie.Need-open-shares-requires
-open-shares-requires c κs = search needs
-
 returns : tie.Need-returns
 unfolding withShares
 returns c = rw (nothing-open c)
@@ -29,4 +26,4 @@ unfolding withShares
 returns-2 c = rw (something-open c)
 
 pub with-counts-spec : {M : Type 1} → statement M
-with-counts-spec = tie.close (tie.spec open-shares-requires returns returns-2)
+with-counts-spec = tie.close (tie.spec (search needs) returns returns-2)

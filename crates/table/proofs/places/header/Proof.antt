@@ -6,15 +6,9 @@ use borrow.Author.Needs.{needs}
 use Rattle.table.proofs.places.header.Statement.{statement}
 use Rattle.table.proofs.places.header.Tie as tie
 
-head-requires : tie.Need-head-requires
-head-requires c κs = search needs
-
-header-of-requires : tie.Need-header-of-requires
-header-of-requires c κs = search needs
-
 returns : tie.Need-returns
 unfolding header
 returns c = c .header-of .ensures ∙ ap headerOf (c .before .head .ensures .0)
 
 pub header-spec : {M : Type 1} → statement M
-header-spec = tie.close (tie.spec head-requires header-of-requires returns)
+header-spec = tie.close (tie.spec (search needs) (search needs) returns)

@@ -6,15 +6,9 @@ use borrow.Author.Needs.{needs}
 use Rattle.table.proofs.places.order_at.Statement.{statement}
 use Rattle.table.proofs.places.order_at.Tie as tie
 
-record-bytes-requires : tie.Need-record-bytes-requires
-record-bytes-requires c κs = search needs
-
-order-of-requires : tie.Need-order-of-requires
-order-of-requires c κs = search needs
-
 returns : tie.Need-returns
 unfolding orderAt
 returns c = c .order-of .ensures ∙ ap orderOf (c .before .record-bytes .ensures .0)
 
 pub order-at-spec : {M : Type 1} → statement M
-order-at-spec = tie.close (tie.spec record-bytes-requires order-of-requires returns)
+order-at-spec = tie.close (tie.spec (search needs) (search needs) returns)

@@ -5,21 +5,6 @@ use borrow.Author.Needs.{needs}
 use Rattle.table.proofs.places.store_header.Statement.{statement}
 use Rattle.table.proofs.places.store_header.Tie as tie
 
-sub-put-header : tie.Need-sub-put-header
-sub-put-header c = search needs
-
-part-put-header-start : tie.Need-part-put-header-start
-part-put-header-start c = search needs
-
-part-put-header-end : tie.Need-part-put-header-end
-part-put-header-end c = search needs
-
-put-header-requires : tie.Need-put-header-requires
-put-header-requires c κs = search needs
-
-same-length : tie.Need-same-length
-same-length c = search needs
-
 returns : tie.Need-returns
 unfolding storeHeader
 returns c =
@@ -28,12 +13,4 @@ returns c =
     put-lent (a .table .now) 0 64 _ _ (e .0) (e .1)
 
 pub store-header-spec : {M : Type 1} → statement M
-store-header-spec =
-    tie.close
-    (tie.spec
-    sub-put-header
-    part-put-header-start
-    part-put-header-end
-    put-header-requires
-    same-length
-    returns)
+store-header-spec = tie.close (tie.spec (search needs) (search needs) (search needs) (search needs) (search needs) returns)

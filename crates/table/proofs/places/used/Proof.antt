@@ -6,18 +6,9 @@ use borrow.Author.Needs.{needs}
 use Rattle.table.proofs.places.used.Statement.{statement}
 use Rattle.table.proofs.places.used.Tie as tie
 
-head-requires : tie.Need-head-requires
-head-requires c κs = search needs
-
-be32-requires : tie.Need-be32-requires
-be32-requires c κs = search needs
-
-cast-result : tie.Need-cast-result
-cast-result c = search needs
-
 returns : tie.Need-returns
 unfolding header headerOf
 returns c = c .be32 .ensures ∙ ap (λ s. headerOf s .used) (c .before .head .ensures .0)
 
 pub used-spec : {M : Type 1} → statement M
-used-spec = tie.close (tie.spec head-requires be32-requires cast-result returns)
+used-spec = tie.close (tie.spec (search needs) (search needs) (search needs) returns)

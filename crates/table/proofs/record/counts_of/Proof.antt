@@ -4,18 +4,9 @@ use borrow.Author.Needs.{needs}
 use Rattle.table.proofs.record.counts_of.Statement.{statement}
 use Rattle.table.proofs.record.counts_of.Tie as tie
 
-be32-requires : tie.Need-be32-requires
-be32-requires c κs = search needs
-
-be32-requires-2 : tie.Need-be32-requires-2
-be32-requires-2 c κs = search needs
-
-be32-requires-3 : tie.Need-be32-requires-3
-be32-requires-3 c κs = search needs
-
 returns : tie.Need-returns
 unfolding orderOf
 returns c = rw (c .before .before .be32 .ensures, c .before .be322 .ensures, c .be323 .ensures)
 
 pub counts-of-spec : {M : Type 1} → statement M
-counts-of-spec = tie.close (tie.spec be32-requires be32-requires-2 be32-requires-3 returns)
+counts-of-spec = tie.close (tie.spec (search needs) (search needs) (search needs) returns)

@@ -8,21 +8,6 @@ use borrow.Author.Needs.{needs}
 use Rattle.table.proofs.record.put_ending.Statement.{statement}
 use Rattle.table.proofs.record.put_ending.Tie as tie
 
-put-be64-requires : tie.Need-put-be64-requires
-put-be64-requires c κs = search needs
-
-put-byte-requires : tie.Need-put-byte-requires
-put-byte-requires c κs = search needs
-
-put-bytes14-requires : tie.Need-put-bytes14-requires
-put-bytes14-requires c κs = search needs
-
-put-byte-requires-2 : tie.Need-put-byte-requires-2
-put-byte-requires-2 c κs = search needs
-
-same-length : tie.Need-same-length
-same-length c = search needs
-
 returns : tie.Need-returns
 unfolding ending
 returns c =
@@ -41,12 +26,4 @@ returns c =
     (written-all pieces w4, written-long pieces w4)
 
 pub put-ending-spec : {M : Type 1} → statement M
-put-ending-spec =
-    tie.close
-    (tie.spec
-    put-be64-requires
-    put-byte-requires
-    put-bytes14-requires
-    put-byte-requires-2
-    same-length
-    returns)
+put-ending-spec = tie.close (tie.spec (search needs) (search needs) (search needs) (search needs) (search needs) returns)

@@ -8,24 +8,6 @@ use borrow.Author.Needs.{needs}
 use Rattle.table.proofs.record.put_letters.Statement.{statement}
 use Rattle.table.proofs.record.put_letters.Tie as tie
 
-put-byte-requires : tie.Need-put-byte-requires
-put-byte-requires c κs = search needs
-
-put-byte-requires-2 : tie.Need-put-byte-requires-2
-put-byte-requires-2 c κs = search needs
-
-put-byte-requires-3 : tie.Need-put-byte-requires-3
-put-byte-requires-3 c κs = search needs
-
-put-be32-requires : tie.Need-put-be32-requires
-put-be32-requires c κs = search needs
-
-put-byte-requires-4 : tie.Need-put-byte-requires-4
-put-byte-requires-4 c κs = search needs
-
-same-length : tie.Need-same-length
-same-length c = search needs
-
 returns : tie.Need-returns
 unfolding letters
 returns c =
@@ -46,13 +28,4 @@ returns c =
     (written-all pieces w5, written-long pieces w5)
 
 pub put-letters-spec : {M : Type 1} → statement M
-put-letters-spec =
-    tie.close
-    (tie.spec
-    put-byte-requires
-    put-byte-requires-2
-    put-byte-requires-3
-    put-be32-requires
-    put-byte-requires-4
-    same-length
-    returns)
+put-letters-spec = tie.close (tie.spec (search needs) (search needs) (search needs) (search needs) (search needs) (search needs) returns)

@@ -8,27 +8,6 @@ use borrow.Author.Needs.{needs}
 use Rattle.table.proofs.record.put_opening.Statement.{statement}
 use Rattle.table.proofs.record.put_opening.Tie as tie
 
-put-byte-requires : tie.Need-put-byte-requires
-put-byte-requires c κs = search needs
-
-put-bytes14-requires : tie.Need-put-bytes14-requires
-put-bytes14-requires c κs = search needs
-
-put-byte-requires-2 : tie.Need-put-byte-requires-2
-put-byte-requires-2 c κs = search needs
-
-put-be32-requires : tie.Need-put-be32-requires
-put-be32-requires c κs = search needs
-
-put-be32-requires-2 : tie.Need-put-be32-requires-2
-put-be32-requires-2 c κs = search needs
-
-put-be32-requires-3 : tie.Need-put-be32-requires-3
-put-be32-requires-3 c κs = search needs
-
-same-length : tie.Need-same-length
-same-length c = search needs
-
 returns : tie.Need-returns
 unfolding opening
 returns c =
@@ -52,13 +31,4 @@ returns c =
 
 pub put-opening-spec : {M : Type 1} → statement M
 put-opening-spec =
-    tie.close
-    (tie.spec
-    put-byte-requires
-    put-bytes14-requires
-    put-byte-requires-2
-    put-be32-requires
-    put-be32-requires-2
-    put-be32-requires-3
-    same-length
-    returns)
+    tie.close (tie.spec (search needs) (search needs) (search needs) (search needs) (search needs) (search needs) (search needs) returns)

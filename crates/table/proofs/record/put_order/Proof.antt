@@ -11,21 +11,6 @@ use borrow.Author.Needs.{needs}
 use Rattle.table.proofs.record.put_order.Statement.{statement}
 use Rattle.table.proofs.record.put_order.Tie as tie
 
-put-opening-requires : tie.Need-put-opening-requires
-put-opening-requires c κs = search needs
-
-put-traded-requires : tie.Need-put-traded-requires
-put-traded-requires c κs = search needs
-
-put-letters-requires : tie.Need-put-letters-requires
-put-letters-requires c κs = search needs
-
-put-ending-requires : tie.Need-put-ending-requires
-put-ending-requires c κs = search needs
-
-same-length : tie.Need-same-length
-same-length c = search needs
-
 returns : tie.Need-returns
 returns c =
     let p4 = c .before .before in
@@ -45,12 +30,4 @@ returns c =
     (written-all pieces w4 ∙ put-whole (a .s .now) (joined pieces) (omega (arith, long, s .pre)) ∙ sym (order-runs o), ap length (order-runs o) ∙ long)
 
 pub put-order-spec : {M : Type 1} → statement M
-put-order-spec =
-    tie.close
-    (tie.spec
-    put-opening-requires
-    put-traded-requires
-    put-letters-requires
-    put-ending-requires
-    same-length
-    returns)
+put-order-spec = tie.close (tie.spec (search needs) (search needs) (search needs) (search needs) (search needs) returns)

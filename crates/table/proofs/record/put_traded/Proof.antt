@@ -8,21 +8,6 @@ use borrow.Author.Needs.{needs}
 use Rattle.table.proofs.record.put_traded.Statement.{statement}
 use Rattle.table.proofs.record.put_traded.Tie as tie
 
-put-bytes8-requires : tie.Need-put-bytes8-requires
-put-bytes8-requires c κs = search needs
-
-put-be32-requires : tie.Need-put-be32-requires
-put-be32-requires c κs = search needs
-
-put-be32-requires-2 : tie.Need-put-be32-requires-2
-put-be32-requires-2 c κs = search needs
-
-put-bytes4-requires : tie.Need-put-bytes4-requires
-put-bytes4-requires c κs = search needs
-
-same-length : tie.Need-same-length
-same-length c = search needs
-
 returns : tie.Need-returns
 unfolding traded
 returns c =
@@ -41,12 +26,4 @@ returns c =
     (written-all pieces w4, written-long pieces w4)
 
 pub put-traded-spec : {M : Type 1} → statement M
-put-traded-spec =
-    tie.close
-    (tie.spec
-    put-bytes8-requires
-    put-be32-requires
-    put-be32-requires-2
-    put-bytes4-requires
-    same-length
-    returns)
+put-traded-spec = tie.close (tie.spec (search needs) (search needs) (search needs) (search needs) (search needs) returns)

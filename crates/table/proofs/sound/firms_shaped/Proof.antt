@@ -1,4 +1,5 @@
 -- The loop's invariant: each firm before place k is shaped. The measure is what is left of the count.
+use Rattle.octets.proofs.Needs.{unasked}
 use mathlib.Core.Path.{_≡_, refl, sym, ap, _∙_}
 use mathlib.Core.Bool.{true}
 use Prim.Native.Nat.{_-_, _≤_}
@@ -20,21 +21,6 @@ abbrev μ-loop : tie.MeasureT-loop
 loop-holds : tie.Need-loop-holds Inv-loop μ-loop
 unfolding allBelow
 loop-holds c = (omega arith, refl)
-
-firm-at-requires : tie.Need-firm-at-requires Inv-loop μ-loop
-firm-at-requires c κs = search needs
-
-slice-aggregate-is-shaped : tie.Need-slice-aggregate-is-shaped Inv-loop μ-loop
-slice-aggregate-is-shaped c = search needs
-
-is-shaped-requires : tie.Need-is-shaped-requires Inv-loop μ-loop
-is-shaped-requires c κs = search needs
-
-add-k : tie.Need-add-k Inv-loop μ-loop
-add-k c = search needs
-
-loop-less : tie.Need-loop-less Inv-loop μ-loop
-loop-less c = search needs
 
 loop-again : tie.Need-loop-again Inv-loop μ-loop
 loop-again c =
@@ -59,15 +45,4 @@ returns-2 c =
 pub firms-shaped-spec : {M : Type 1} → statement M
 firms-shaped-spec =
     tie.close
-    (tie.spec
-    Inv-loop
-    μ-loop
-    loop-holds
-    firm-at-requires
-    slice-aggregate-is-shaped
-    is-shaped-requires
-    add-k
-    loop-less
-    loop-again
-    returns
-    returns-2)
+    (tie.spec Inv-loop μ-loop loop-holds (search needs) (search needs) unasked (search needs) (search needs) loop-again returns returns-2)

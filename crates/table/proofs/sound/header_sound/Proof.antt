@@ -1,4 +1,5 @@
 -- The numbers are judged first, and say that the count is one that eight places hold.
+use Rattle.octets.proofs.Needs.{unasked}
 use mathlib.Core.Path.{sym, _∙_}
 use Rattle.wire.specs.Layout.{noBadPlace}
 use Rattle.table.specs.Header.{headerOf, headerLayout}
@@ -8,32 +9,11 @@ use borrow.Author.Needs.{needs}
 use Rattle.table.proofs.sound.header_sound.Statement.{statement}
 use Rattle.table.proofs.sound.header_sound.Tie as tie
 
-numbers-good-requires : tie.Need-numbers-good-requires
-numbers-good-requires c κs = search needs
-
-be32-requires : tie.Need-be32-requires
-be32-requires c κs = search needs
-
-cast-used : tie.Need-cast-used
-cast-used c = search needs
-
-byte-at-requires : tie.Need-byte-at-requires
-byte-at-requires c κs = search needs
-
-cast-count : tie.Need-cast-count
-cast-count c = search needs
-
-bytes32-at-requires : tie.Need-bytes32-at-requires
-bytes32-at-requires c κs = search needs
-
 firms-shaped-requires : tie.Need-firms-shaped-requires
 unfolding headerOf
 firms-shaped-requires c κs =
     let s = c .before .before .before .before .before .before .args .s .now in
     rw (c .before .byte-at .ensures) (count-within s (sym (c .before .before .before .before .numbers-good .ensures) ∙ c .before .before .before .if1 .taken))
-
-rest-blank-requires : tie.Need-rest-blank-requires
-rest-blank-requires c κs = search needs
 
 returns : tie.Need-returns
 unfolding headerOf
@@ -53,14 +33,5 @@ returns-2 c =
 pub header-sound-spec : {M : Type 1} → statement M
 header-sound-spec =
     tie.close
-    (tie.spec
-    numbers-good-requires
-    be32-requires
-    cast-used
-    byte-at-requires
-    cast-count
-    bytes32-at-requires
-    firms-shaped-requires
-    rest-blank-requires
-    returns
-    returns-2)
+    (tie.spec (search needs) (search needs) (search needs) (search needs) (search needs) (search needs) firms-shaped-requires unasked
+    returns returns-2)

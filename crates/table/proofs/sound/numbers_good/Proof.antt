@@ -7,27 +7,6 @@ use borrow.Author.Needs.{needs}
 use Rattle.table.proofs.sound.numbers_good.Statement.{statement}
 use Rattle.table.proofs.sound.numbers_good.Tie as tie
 
-byte-at-requires : tie.Need-byte-at-requires
-byte-at-requires c κs = search needs
-
-byte-at-requires-2 : tie.Need-byte-at-requires-2
-byte-at-requires-2 c κs = search needs
-
-be64-requires : tie.Need-be64-requires
-be64-requires c κs = search needs
-
-be64-requires-2 : tie.Need-be64-requires-2
-be64-requires-2 c κs = search needs
-
-be32-requires : tie.Need-be32-requires
-be32-requires c κs = search needs
-
-zeros-requires : tie.Need-zeros-requires
-zeros-requires c κs = search needs
-
-zeros-requires-2 : tie.Need-zeros-requires-2
-zeros-requires-2 c κs = search needs
-
 returns : tie.Need-returns
 returns c =
     let s = c .before .before .before .before .before .before .before .before .args .s .now in
@@ -36,13 +15,4 @@ returns c =
 
 pub numbers-good-spec : {M : Type 1} → statement M
 numbers-good-spec =
-    tie.close
-    (tie.spec
-    byte-at-requires
-    byte-at-requires-2
-    be64-requires
-    be64-requires-2
-    be32-requires
-    zeros-requires
-    zeros-requires-2
-    returns)
+    tie.close (tie.spec (search needs) (search needs) (search needs) (search needs) (search needs) (search needs) (search needs) returns)

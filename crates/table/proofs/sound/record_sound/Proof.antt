@@ -6,12 +6,6 @@ use borrow.Author.Needs.{needs}
 use Rattle.table.proofs.sound.record_sound.Statement.{statement}
 use Rattle.table.proofs.sound.record_sound.Tie as tie
 
-token-legal-requires : tie.Need-token-legal-requires
-token-legal-requires c κs = search needs
-
-state-sound-requires : tie.Need-state-sound-requires
-state-sound-requires c κs = search needs
-
 returns : tie.Need-returns
 unfolding recordSound
 returns c =
@@ -27,5 +21,4 @@ returns-2 c =
     sym (ap (λ (t : Bool). t && stateSound r (orderOf r)) e)
 
 pub record-sound-spec : {M : Type 1} → statement M
-record-sound-spec =
-    tie.close (tie.spec token-legal-requires state-sound-requires returns returns-2)
+record-sound-spec = tie.close (tie.spec (search needs) (search needs) returns returns-2)

@@ -26,21 +26,6 @@ loop-holds : tie.Need-loop-holds Inv-loop μ-loop
 unfolding allBelow
 loop-holds c = (omega arith, refl)
 
-slice-aggregate-zeros : tie.Need-slice-aggregate-zeros Inv-loop μ-loop
-slice-aggregate-zeros c = search needs
-
-mul-zeros : tie.Need-mul-zeros Inv-loop μ-loop
-mul-zeros c = search needs
-
-zeros-requires : tie.Need-zeros-requires Inv-loop μ-loop
-zeros-requires c κs = search needs
-
-add-k : tie.Need-add-k Inv-loop μ-loop
-add-k c = search needs
-
-loop-less : tie.Need-loop-less Inv-loop μ-loop
-loop-less c = search needs
-
 loop-again : tie.Need-loop-again Inv-loop μ-loop
 unfolding firmAt
 loop-again c =
@@ -57,14 +42,4 @@ returns c =
 pub rest-blank-spec : {M : Type 1} → statement M
 rest-blank-spec =
     tie.close
-    (tie.spec
-    Inv-loop
-    μ-loop
-    loop-holds
-    slice-aggregate-zeros
-    mul-zeros
-    zeros-requires
-    add-k
-    loop-less
-    loop-again
-    returns)
+    (tie.spec Inv-loop μ-loop loop-holds (search needs) (search needs) (search needs) (search needs) (search needs) loop-again returns)

@@ -15,15 +15,9 @@ returns c =
     let e : length (c .before .args .table .now) - headerSize ≡ 0 = omega arith in
     sym (rw e)
 
-mul-result : tie.Need-mul-result
-mul-result c = search needs
-
-add-result : tie.Need-add-result
-add-result c = search needs
-
 returns-2 : tie.Need-returns-2
 unfolding sizeGood recordsIn
 returns-2 c = refl
 
 pub size-good-spec : {M : Type 1} → statement M
-size-good-spec = tie.close (tie.spec returns mul-result add-result returns-2)
+size-good-spec = tie.close (tie.spec returns (search needs) (search needs) returns-2)

@@ -1,4 +1,5 @@
 -- Length, header and records are asked in this order: each is needed to ask the next.
+use Rattle.octets.proofs.Needs.{unasked}
 use mathlib.Core.Path.{_≡_, sym, ap, _∙_}
 use mathlib.Core.Bool.{true, _&&_}
 use Prim.Native.Nat.{ℕ}
@@ -22,17 +23,11 @@ header-told c =
     let t = c .before .before .before .before .before .args .table .now in
     sym (c .header-sound .ensures ∙ ap (λ s. headerSound s (recordsIn t)) (c .before .head .ensures .0))
 
-size-good-requires : tie.Need-size-good-requires
-size-good-requires c κs = search needs
-
 sub-records : tie.Need-sub-records
 sub-records c = let s = of-size (c .before .before .before .args .table .now) (sym (c .before .size-good .ensures) ∙ c .if1 .taken) in omega arith
 
 head-requires : tie.Need-head-requires
 head-requires c κs = let s = of-size (c .before .before .before .args .table .now) (sym (c .before .size-good .ensures) ∙ c .if1 .taken) in omega arith
-
-header-sound-requires : tie.Need-header-sound-requires
-header-sound-requires c κs = search needs
 
 used-requires : tie.Need-used-requires
 used-requires c κs = let s = of-size (c .before .before .before .before .before .before .args .table .now) (size-told (c .before)) in omega arith
@@ -59,14 +54,4 @@ returns-3 c =
 
 pub sound-spec : {M : Type 1} → statement M
 sound-spec =
-    tie.close
-    (tie.spec
-    size-good-requires
-    sub-records
-    head-requires
-    header-sound-requires
-    used-requires
-    records-sound-requires
-    returns
-    returns-2
-    returns-3)
+    tie.close (tie.spec unasked sub-records head-requires (search needs) used-requires records-sound-requires returns returns-2 returns-3)

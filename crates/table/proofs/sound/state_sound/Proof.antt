@@ -12,39 +12,12 @@ use borrow.Author.Needs.{needs}
 use Rattle.table.proofs.sound.state_sound.Statement.{statement}
 use Rattle.table.proofs.sound.state_sound.Tie as tie
 
-byte-at-requires : tie.Need-byte-at-requires
-byte-at-requires c κs = search needs
-
-zeros-requires : tie.Need-zeros-requires
-zeros-requires c κs = search needs
-
 returns : tie.Need-returns
 unfolding orderOf
 returns c =
     let s = c .before .before .before .before .args .r .now in
     let e : orderOf s .state ≡ rejectedToken = sym (c .before .before .byte-at .ensures) ∙ c .before .if1 .taken in
     c .zeros .ensures ∙ ap (allAre 0) (take-all 65 (drop 15 s) (simp length-drop (omega (arith, c .before .before .before .before .pre)))) ∙ sym (state-rejected s (orderOf s) e)
-
-be32-requires : tie.Need-be32-requires
-be32-requires c κs = search needs
-
-cast-liable : tie.Need-cast-liable
-cast-liable c = search needs
-
-be32-requires-2 : tie.Need-be32-requires-2
-be32-requires-2 c κs = search needs
-
-cast-gone : tie.Need-cast-gone
-cast-gone c = search needs
-
-be32-requires-3 : tie.Need-be32-requires-3
-be32-requires-3 c κs = search needs
-
-cast-gone-2 : tie.Need-cast-gone-2
-cast-gone-2 c = search needs
-
-add-gone : tie.Need-add-gone
-add-gone c = search needs
 
 returns-2 : tie.Need-returns-2
 unfolding orderOf gone
@@ -56,15 +29,5 @@ returns-2 c =
 pub state-sound-spec : {M : Type 1} → statement M
 state-sound-spec =
     tie.close
-    (tie.spec
-    byte-at-requires
-    zeros-requires
-    returns
-    be32-requires
-    cast-liable
-    be32-requires-2
-    cast-gone
-    be32-requires-3
-    cast-gone-2
-    add-gone
-    returns-2)
+    (tie.spec (search needs) (search needs) returns (search needs) (search needs) (search needs) (search needs) (search needs)
+    (search needs) (search needs) returns-2)

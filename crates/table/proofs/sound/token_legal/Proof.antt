@@ -1,4 +1,5 @@
 -- The loop's invariant: `ok` says that the k bytes passed stand outside the token or are legal in it. The measure is what is left of 32.
+use Rattle.octets.proofs.Needs.{unasked}
 use mathlib.Core.Path.{_≡_, refl, ap, _∙_}
 use mathlib.Core.Bool.{Bool, _||_}
 use Prim.Native.Nat.{_-_, _≤_}
@@ -21,18 +22,6 @@ loop-holds : tie.Need-loop-holds Inv-loop μ-loop
 unfolding allBelow
 loop-holds c = (omega arith, refl)
 
-shared-slice-read-is-token-byte : tie.Need-shared-slice-read-is-token-byte Inv-loop μ-loop
-shared-slice-read-is-token-byte c = search needs
-
-is-token-byte-requires : tie.Need-is-token-byte-requires Inv-loop μ-loop
-is-token-byte-requires c κs = search needs
-
-add-k : tie.Need-add-k Inv-loop μ-loop
-add-k c = search needs
-
-loop-less : tie.Need-loop-less Inv-loop μ-loop
-loop-less c = search needs
-
 loop-again : tie.Need-loop-again Inv-loop μ-loop
 loop-again c =
     let r = c .before .before .before .before .before .args .r .now in
@@ -46,15 +35,4 @@ returns c =
     c .before .loop .inv .1 ∙ ap (λ n. allBelow n (tokenPlace r)) e ∙ token-tests r (omega (arith, c .before .before .before .pre))
 
 pub token-legal-spec : {M : Type 1} → statement M
-token-legal-spec =
-    tie.close
-    (tie.spec
-    Inv-loop
-    μ-loop
-    loop-holds
-    shared-slice-read-is-token-byte
-    is-token-byte-requires
-    add-k
-    loop-less
-    loop-again
-    returns)
+token-legal-spec = tie.close (tie.spec Inv-loop μ-loop loop-holds (search needs) unasked (search needs) (search needs) loop-again returns)

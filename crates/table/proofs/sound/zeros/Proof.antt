@@ -20,18 +20,6 @@ loop-holds : tie.Need-loop-holds Inv-loop μ-loop
 unfolding allBelow
 loop-holds c = (omega arith, refl)
 
-add-ok : tie.Need-add-ok Inv-loop μ-loop
-add-ok c = search needs
-
-shared-slice-read-ok : tie.Need-shared-slice-read-ok Inv-loop μ-loop
-shared-slice-read-ok c = search needs
-
-add-k : tie.Need-add-k Inv-loop μ-loop
-add-k c = search needs
-
-loop-less : tie.Need-loop-less Inv-loop μ-loop
-loop-less c = search needs
-
 loop-again : tie.Need-loop-again Inv-loop μ-loop
 loop-again c =
     let a = c .before .before .before .args in
@@ -44,15 +32,4 @@ returns c =
     c .before .loop .inv .1 ∙ ap (λ (m : ℕ). allBelow m (λ j. eqb (getD (a .s .now) (a .at + j) 0) 0)) e ∙ part-are 0 (a .s .now) (a .at) (a .n) (c .before .before .pre)
 
 pub zeros-spec : {M : Type 1} → statement M
-zeros-spec =
-    tie.close
-    (tie.spec
-    Inv-loop
-    μ-loop
-    loop-holds
-    add-ok
-    shared-slice-read-ok
-    add-k
-    loop-less
-    loop-again
-    returns)
+zeros-spec = tie.close (tie.spec Inv-loop μ-loop loop-holds (search needs) (search needs) (search needs) (search needs) loop-again returns)

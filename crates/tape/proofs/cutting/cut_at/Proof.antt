@@ -1,4 +1,5 @@
 -- Each return is the guard of `cutAt` that its tests led to; the length is what the kind byte fixes. Assumes nothing.
+use Rattle.octets.proofs.Needs.{unasked}
 use Prim.Native.Nat.{_-_}
 use mathlib.Core.Path.{sym, _∙_}
 use borrow.Author.Needs.{needs}
@@ -11,20 +12,11 @@ returns : tie.Need-returns
 unfolding cutAt
 returns c = simp (le-leb _ _ (c .if1 .taken))
 
-shared-slice-read-length-of : tie.Need-shared-slice-read-length-of
-shared-slice-read-length-of c = search needs
-
-length-of-requires : tie.Need-length-of-requires
-length-of-requires c κs = search needs
-
 returns-2 : tie.Need-returns-2
 unfolding cutAt
 returns-2 c =
     let p = c .before .before .before in
     simp (lt-leb _ _ (p .if1 .left), eq-eqb _ _ (sym (c .before .length-of .ensures) ∙ c .if2 .taken))
-
-sub-if3 : tie.Need-sub-if3
-sub-if3 c = search needs
 
 returns-3 : tie.Need-returns-3
 unfolding cutAt
@@ -36,9 +28,6 @@ returns-3 c =
       ne-eqb _ _ (λ z. c .before .if2 .left (e ∙ z)),
       lt-ltb _ _ (rw e at (c .if3 .taken)),
     )
-
-add-t4 : tie.Need-add-t4
-add-t4 c = search needs
 
 returns-4 : tie.Need-returns-4
 unfolding cutAt
@@ -53,6 +42,4 @@ returns-4 c =
     )
 
 pub cut-at-spec : {M : Type 1} → statement M
-cut-at-spec =
-    tie.close
-    (tie.spec returns shared-slice-read-length-of length-of-requires returns-2 sub-if3 returns-3 add-t4 returns-4)
+cut-at-spec = tie.close (tie.spec returns (search needs) unasked returns-2 (search needs) returns-3 (search needs) returns-4)

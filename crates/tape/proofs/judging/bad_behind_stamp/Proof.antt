@@ -1,4 +1,5 @@
 -- Behind the stamp: the system's code, or a token and what stands behind that. Assumes nothing.
+use Rattle.octets.proofs.Needs.{unasked}
 use mathlib.Core.Path.{_≡_, refl, sym, ap, _∙_}
 use mathlib.Core.Option.{none}
 use native.Mathlib.Omega.{arith}
@@ -12,9 +13,6 @@ use Rattle.tape.specs.Behind.{badStamp, badToken}
 use Rattle.tape.proofs.Judged.{well-long, token-fits, last, behind-stamp}
 use Rattle.tape.proofs.judging.bad_behind_stamp.Statement.{statement}
 use Rattle.tape.proofs.judging.bad_behind_stamp.Tie as tie
-
-kind-of-requires : tie.Need-kind-of-requires
-kind-of-requires c κs = search needs
 
 -- the kind that the test found
 system : (c : tie.Then1) → kindOf (c .before .before .before .args .entry .now) ≡ 115
@@ -35,12 +33,6 @@ bad-token-requires : tie.Need-bad-token-requires
 bad-token-requires c κs =
     omega (arith, token-fits _ (c .before .before .before .pre) (λ h. c .if1 .left (c .before .kind-of .ensures ∙ h)))
 
-bad-behind-token-requires : tie.Need-bad-behind-token-requires
-bad-behind-token-requires c κs = search needs
-
-earlier-requires : tie.Need-earlier-requires
-earlier-requires c κs = search needs
-
 returns-2 : tie.Need-returns-2
 unfolding badToken
 returns-2 c =
@@ -51,12 +43,4 @@ returns-2 c =
 
 pub bad-behind-stamp-spec : {M : Type 1} → statement M
 bad-behind-stamp-spec =
-    tie.close
-    (tie.spec
-    kind-of-requires
-    bad-system-event-requires
-    returns
-    bad-token-requires
-    bad-behind-token-requires
-    earlier-requires
-    returns-2)
+    tie.close (tie.spec unasked bad-system-event-requires returns bad-token-requires (λ c κs. search needs) unasked returns-2)

@@ -1,7 +1,7 @@
 -- Each return is what the kind's layout judges behind the token. Assumes nothing.
+use Rattle.octets.proofs.Needs.{unasked}
 use mathlib.Core.Path.{_≡_, refl, sym, _∙_}
 use native.Mathlib.Omega.{arith}
-use borrow.Author.Needs.{needs}
 use Rattle.octets.specs.Bytes.{part}
 use Rattle.wire.specs.Letters.{sides, sweeps, liquidityFlags, bookReasons}
 use Rattle.wire.specs.Limits.{lowestPrice, highestPrice}
@@ -41,9 +41,6 @@ bad-sweep-requires : tie.Need-bad-sweep-requires
 unfolding layoutFor
 bad-sweep-requires c κs = let t = c .before in omega (arith, well-long _ 79 (kind-1 t) (t .before .before .pre .0))
 
-earlier-requires : tie.Need-earlier-requires
-earlier-requires c κs = search needs
-
 returns : tie.Need-returns
 unfolding layoutFor firstBadIn firstBadPlace badPlace
 returns c =
@@ -59,9 +56,6 @@ bad-token-requires c κs = let t = c in omega (arith, well-long _ 85 (kind-2 t) 
 bad-sweep-requires-2 : tie.Need-bad-sweep-requires-2
 unfolding layoutFor
 bad-sweep-requires-2 c κs = let t = c .before in omega (arith, well-long _ 85 (kind-2 t) (t .before .before .before .pre .0))
-
-earlier-requires-2 : tie.Need-earlier-requires-2
-earlier-requires-2 c κs = search needs
 
 returns-2 : tie.Need-returns-2
 unfolding layoutFor firstBadIn firstBadPlace badPlace
@@ -140,23 +134,6 @@ returns-8 c =
 pub bad-behind-token-spec : {M : Type 1} → statement M
 bad-behind-token-spec =
     tie.close
-    (tie.spec
-    bad-side-requires
-    bad-sweep-requires
-    earlier-requires
-    returns
-    bad-token-requires
-    bad-sweep-requires-2
-    earlier-requires-2
-    returns-2
-    bad-side-requires-2
-    returns-3
-    bad-liquidity-flag-requires
-    returns-4
-    bad-book-reason-requires
-    returns-5
-    bad-liquidity-flag-requires-2
-    returns-6
-    bad-limit-price-requires
-    returns-7
-    returns-8)
+    (tie.spec bad-side-requires bad-sweep-requires unasked returns bad-token-requires bad-sweep-requires-2 unasked returns-2
+    bad-side-requires-2 returns-3 bad-liquidity-flag-requires returns-4 bad-book-reason-requires returns-5 bad-liquidity-flag-requires-2
+    returns-6 bad-limit-price-requires returns-7 returns-8)

@@ -1,4 +1,5 @@
 -- 2 where the kind fixes no length or another one, 3 where there is a first bad place. Assumes nothing.
+use Rattle.octets.proofs.Needs.{unasked}
 use mathlib.Core.Path.{_≡_, sym, ap, _∙_}
 use mathlib.Core.Bool.{true}
 use borrow.Author.Needs.{needs}
@@ -6,12 +7,6 @@ use Rattle.tape.specs.Entries.{kindOf, entryLength, wellFormed}
 use Rattle.tape.proofs.Judged.{not-well, no-kind, well, answer-malformed, answer-done, answer-bad}
 use Rattle.tape.proofs.judging.judge.Statement.{statement}
 use Rattle.tape.proofs.judging.judge.Tie as tie
-
-kind-of-requires : tie.Need-kind-of-requires
-kind-of-requires c κs = search needs
-
-length-of-requires : tie.Need-length-of-requires
-length-of-requires c κs = search needs
 
 -- the length that was found is the one that the entry's kind fixes
 fixed : (c : tie.After-length-of) → c .length-of .result ≡ entryLength (kindOf (c .before .before .before .args .entry .now))
@@ -34,9 +29,6 @@ first-bad-requires c κs = well-formed c
 enum-told : tie.Need-enum-told
 enum-told c = search needs
 
-enum-told-2 : tie.Need-enum-told-2
-enum-told-2 c = search needs
-
 returns-3 : tie.Need-returns-3
 returns-3 c =
     let b = c .before .before in
@@ -48,15 +40,4 @@ returns-4 c =
     answer-bad _ (c .enum-told2 .given .0 .0) (well-formed (b .before)) (sym (b .first-bad .ensures) ∙ c .enum-told2 .given .1)
 
 pub judge-spec : {M : Type 1} → statement M
-judge-spec =
-    tie.close
-    (tie.spec
-    kind-of-requires
-    length-of-requires
-    returns
-    returns-2
-    first-bad-requires
-    enum-told
-    enum-told-2
-    returns-3
-    returns-4)
+judge-spec = tie.close (tie.spec unasked unasked returns returns-2 first-bad-requires enum-told (search needs) returns-3 returns-4)

@@ -11,12 +11,9 @@ returns : tie.Need-returns
 unfolding kindOf
 returns c = sym (List·getD-eq-default (c .before .args .entry .now) 0 {n = 0} (omega arith))
 
-shared-slice-read-result : tie.Need-shared-slice-read-result
-shared-slice-read-result c = search needs
-
 returns-2 : tie.Need-returns-2
 unfolding kindOf
 returns-2 c = refl
 
 pub kind-of-spec : {M : Type 1} → statement M
-kind-of-spec = tie.close (tie.spec returns shared-slice-read-result returns-2)
+kind-of-spec = tie.close (tie.spec returns (search needs) returns-2)

@@ -1,4 +1,5 @@
 -- The table's rule at the kind's place. Assumes nothing.
+use Rattle.octets.proofs.Needs.{unasked}
 use Prim.Native.Nat.{ℕ}
 use mathlib.Core.Path.{sym, ap, _∙_}
 use native.Mathlib.Omega.{arith}
@@ -8,15 +9,6 @@ use Rattle.tape.proofs.Lengths.{lengths, known, unknown}
 use Rattle.tape.proofs.kinds.length_of.Statement.{statement}
 use Rattle.tape.proofs.kinds.length_of.Tie as tie
 
-place-of-requires : tie.Need-place-of-requires
-place-of-requires c κs = search needs
-
-mul-result : tie.Need-mul-result
-mul-result c = search needs
-
-array-read-result : tie.Need-array-read-result
-array-read-result c = search needs
-
 returns : tie.Need-returns
 unfolding lengths
 returns c = ap (λ (k : ℕ). getD lengths k 0) (c .before .place-of .ensures) ∙ known (c .before .before .args .kind)
@@ -25,4 +17,4 @@ returns-2 : tie.Need-returns-2
 returns-2 c = sym (unknown (c .before .before .args .kind) (omega (arith, c .before .place-of .ensures)))
 
 pub length-of-spec : {M : Type 1} → statement M
-length-of-spec = tie.close (tie.spec place-of-requires mul-result array-read-result returns returns-2)
+length-of-spec = tie.close (tie.spec unasked (search needs) (search needs) returns returns-2)

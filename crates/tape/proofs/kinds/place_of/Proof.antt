@@ -64,4 +64,6 @@ unfolding placeIn
 returns-12 c = simp (isnt _ _ (c .before .before .before .before .before .before .before .before .before .before .if1 .left), isnt _ _ (c .before .before .before .before .before .before .before .before .before .if2 .left), isnt _ _ (c .before .before .before .before .before .before .before .before .if3 .left), isnt _ _ (c .before .before .before .before .before .before .before .if4 .left), isnt _ _ (c .before .before .before .before .before .before .if5 .left), isnt _ _ (c .before .before .before .before .before .if6 .left), isnt _ _ (c .before .before .before .before .if7 .left), isnt _ _ (c .before .before .before .if8 .left), isnt _ _ (c .before .before .if9 .left), isnt _ _ (c .before .if10 .left), isnt _ _ (c .if11 .left))
 
 pub place-of-spec : {M : Type 1} → statement M
-place-of-spec = tie.close (tie.spec returns returns-2 returns-3 returns-4 returns-5 returns-6 returns-7 returns-8 returns-9 returns-10 returns-11 returns-12)
+place-of-spec =
+    tie.close
+    (tie.spec returns returns-2 returns-3 returns-4 returns-5 returns-6 returns-7 returns-8 returns-9 returns-10 returns-11 returns-12)

@@ -7,9 +7,6 @@ use Rattle.tape.specs.Entries.{cancelOf}
 use Rattle.tape.proofs.reading.cancel_of.Statement.{statement}
 use Rattle.tape.proofs.reading.cancel_of.Tie as tie
 
-message-in-requires : tie.Need-message-in-requires
-message-in-requires c κs = search needs
-
 parse-cancel-order-requires : tie.Need-parse-cancel-order-requires
 parse-cancel-order-requires c κs = omega (arith, c .message-in .ensures .1)
 
@@ -18,4 +15,4 @@ unfolding cancelOf
 returns c = c .parse-cancel-order .ensures ∙ ap cancelOrderOf (c .before .message-in .ensures .0)
 
 pub cancel-of-spec : {M : Type 1} → statement M
-cancel-of-spec = tie.close (tie.spec message-in-requires parse-cancel-order-requires returns)
+cancel-of-spec = tie.close (tie.spec (λ c κs. search needs) parse-cancel-order-requires returns)

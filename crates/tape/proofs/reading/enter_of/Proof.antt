@@ -7,9 +7,6 @@ use Rattle.tape.specs.Entries.{enterOf}
 use Rattle.tape.proofs.reading.enter_of.Statement.{statement}
 use Rattle.tape.proofs.reading.enter_of.Tie as tie
 
-message-in-requires : tie.Need-message-in-requires
-message-in-requires c κs = search needs
-
 parse-enter-order-requires : tie.Need-parse-enter-order-requires
 parse-enter-order-requires c κs = omega (arith, c .message-in .ensures .1)
 
@@ -18,4 +15,4 @@ unfolding enterOf
 returns c = c .parse-enter-order .ensures ∙ ap enterOrderOf (c .before .message-in .ensures .0)
 
 pub enter-of-spec : {M : Type 1} → statement M
-enter-of-spec = tie.close (tie.spec message-in-requires parse-enter-order-requires returns)
+enter-of-spec = tie.close (tie.spec (λ c κs. search needs) parse-enter-order-requires returns)

@@ -8,15 +8,6 @@ use Rattle.tape.specs.Entries.{messageIn}
 use Rattle.tape.proofs.reading.message_in.Statement.{statement}
 use Rattle.tape.proofs.reading.message_in.Tie as tie
 
-sub-result : tie.Need-sub-result
-sub-result c = search needs
-
-part-result-start : tie.Need-part-result-start
-part-result-start c = search needs
-
-part-result-end : tie.Need-part-result-end
-part-result-end c = search needs
-
 returns : tie.Need-returns
 unfolding messageIn
 returns c =
@@ -24,4 +15,4 @@ returns c =
     (take-all (length s - 8) (drop 8 s) (simp length-drop (omega arith)), simp (length-take, length-drop) (omega arith))
 
 pub message-in-spec : {M : Type 1} → statement M
-message-in-spec = tie.close (tie.spec sub-result part-result-start part-result-end returns)
+message-in-spec = tie.close (tie.spec (search needs) (search needs) (search needs) returns)

@@ -7,9 +7,6 @@ use Rattle.tape.specs.Entries.{modifyOf}
 use Rattle.tape.proofs.reading.modify_of.Statement.{statement}
 use Rattle.tape.proofs.reading.modify_of.Tie as tie
 
-message-in-requires : tie.Need-message-in-requires
-message-in-requires c κs = search needs
-
 parse-modify-order-requires : tie.Need-parse-modify-order-requires
 parse-modify-order-requires c κs = omega (arith, c .message-in .ensures .1)
 
@@ -18,4 +15,4 @@ unfolding modifyOf
 returns c = c .parse-modify-order .ensures ∙ ap modifyOrderOf (c .before .message-in .ensures .0)
 
 pub modify-of-spec : {M : Type 1} → statement M
-modify-of-spec = tie.close (tie.spec message-in-requires parse-modify-order-requires returns)
+modify-of-spec = tie.close (tie.spec (λ c κs. search needs) parse-modify-order-requires returns)

@@ -4,12 +4,9 @@ use Rattle.tape.specs.Entries.{stampOf}
 use Rattle.tape.proofs.reading.stamp_of.Statement.{statement}
 use Rattle.tape.proofs.reading.stamp_of.Tie as tie
 
-be64-requires : tie.Need-be64-requires
-be64-requires c κs = search needs
-
 returns : tie.Need-returns
 unfolding stampOf
 returns c = cc
 
 pub stamp-of-spec : {M : Type 1} → statement M
-stamp-of-spec = tie.close (tie.spec be64-requires returns)
+stamp-of-spec = tie.close (tie.spec (λ c κs. search needs) returns)

@@ -4,12 +4,9 @@ use Rattle.tape.specs.Entries.{systemOf}
 use Rattle.tape.proofs.reading.system_of.Statement.{statement}
 use Rattle.tape.proofs.reading.system_of.Tie as tie
 
-byte-at-requires : tie.Need-byte-at-requires
-byte-at-requires c κs = search needs
-
 returns : tie.Need-returns
 unfolding systemOf
 returns c = cc
 
 pub system-of-spec : {M : Type 1} → statement M
-system-of-spec = tie.close (tie.spec byte-at-requires returns)
+system-of-spec = tie.close (tie.spec (λ c κs. search needs) returns)

@@ -11,21 +11,6 @@ use Rattle.wire.proofs.Verdicts.{not-legal, no-room, sent}
 use Rattle.wire.proofs.frame.send.Statement.{statement}
 use Rattle.wire.proofs.frame.send.Tie as tie
 
-size-requires : tie.Need-size-requires
-size-requires c κs = search needs
-
-sub-bytes : tie.Need-sub-bytes
-sub-bytes c = search needs
-
-part-bytes-start : tie.Need-part-bytes-start
-part-bytes-start c = search needs
-
-part-bytes-end : tie.Need-part-bytes-end
-part-bytes-end c = search needs
-
-is-clean-requires : tie.Need-is-clean-requires
-is-clean-requires c κs = search needs
-
 returns : tie.Need-returns
 returns c =
     let f = c .before in
@@ -42,9 +27,6 @@ returns-2 c =
 put-bytes-requires : tie.Need-put-bytes-requires
 put-bytes-requires c κs = simp length-take (omega (arith, ltb-false, c .before .if2 .left))
 
-same-length : tie.Need-same-length
-same-length c = search needs
-
 returns-3 : tie.Need-returns-3
 returns-3 c =
     let r = c .before .before .before .before in
@@ -57,14 +39,5 @@ returns-3 c =
 pub send-spec : {M : Type 1} → statement M
 send-spec =
     tie.close
-    (tie.spec
-    size-requires
-    sub-bytes
-    part-bytes-start
-    part-bytes-end
-    is-clean-requires
-    returns
-    returns-2
-    put-bytes-requires
-    same-length
+    (tie.spec (search needs) (search needs) (search needs) (search needs) (search needs) returns returns-2 put-bytes-requires (search needs)
     returns-3)

@@ -1,13 +1,10 @@
 -- An answer is done where its number is 0. Assumes nothing.
+use Rattle.octets.proofs.Needs.{unasked}
 use mathlib.Core.Path.{sym, _∙_}
 use borrow.Author.Tests.{eq-eqb, ne-eqb}
-use borrow.Author.Needs.{needs}
 use Rattle.answers.specs.Answer.{ifDone, isDone}
 use Rattle.wire.proofs.frame.taken.Statement.{statement}
 use Rattle.wire.proofs.frame.taken.Tie as tie
-
-number-requires : tie.Need-number-requires
-number-requires c κs = search needs
 
 returns : tie.Need-returns
 unfolding ifDone isDone
@@ -22,4 +19,4 @@ returns-2 c =
     rw not-zero
 
 pub taken-spec : {M : Type 1} → statement M
-taken-spec = tie.close (tie.spec number-requires returns returns-2)
+taken-spec = tie.close (tie.spec unasked returns returns-2)

@@ -1,4 +1,5 @@
 -- Each answer is the message's line in `Numbered`. Assumes nothing.
+use Rattle.octets.proofs.Needs.{unasked}
 use mathlib.Core.Path.{refl}
 use native.Mathlib.Omega.{arith}
 use borrow.Author.Needs.{needs}
@@ -24,9 +25,6 @@ bad-side-requires c κs =
     let s = c .before .before .before .before in
     omega (arith, s .pre .1, long 19 0 4 refl (s .args .k) (search needs) (search needs))
 
-earlier-requires : tie.Need-earlier-requires
-earlier-requires c κs = search needs
-
 returns-2 : tie.Need-returns-2
 returns-2 c =
     let e = modify-order-place (c .before .before .before .before .before .before .args .k) (c .before .before .before .before .before .before .args .s .now) (c .before .before .if2 .taken) in
@@ -44,12 +42,6 @@ bad-side-requires-2 c κs =
     let s = c .before .before .before .before .before .before in
     omega (arith, s .pre .1, long 19 0 4 refl (s .args .k) (search needs) (search needs))
 
-earlier-requires-2 : tie.Need-earlier-requires-2
-earlier-requires-2 c κs = search needs
-
-earlier-requires-3 : tie.Need-earlier-requires-3
-earlier-requires-3 c κs = search needs
-
 returns-3 : tie.Need-returns-3
 returns-3 c =
     let e = enter-order-place (c .before .before .before .before .before .before .before .before .before .args .k) (c .before .before .before .before .before .before .before .before .before .args .s .now) (c .before .before .before .if3 .taken) in
@@ -61,12 +53,6 @@ bad-token-requires-2 c κs =
     let s = c .before .before .before .before .before .before in
     omega (arith, s .pre .1, long 47 0 2 refl (s .args .k) (search needs) (search needs))
 
-earlier-requires-4 : tie.Need-earlier-requires-4
-earlier-requires-4 c κs = search needs
-
-earlier-requires-5 : tie.Need-earlier-requires-5
-earlier-requires-5 c κs = search needs
-
 returns-4 : tie.Need-returns-4
 returns-4 c =
     let s = c .before .before .before .before .before .before .before .before .before in
@@ -76,18 +62,5 @@ returns-4 c =
 pub bad-inbound-spec : {M : Type 1} → statement M
 bad-inbound-spec =
     tie.close
-    (tie.spec
-    bad-token-requires
-    returns
-    bad-side-requires
-    earlier-requires
-    returns-2
-    bad-sweep-requires
-    bad-side-requires-2
-    earlier-requires-2
-    earlier-requires-3
-    returns-3
-    bad-token-requires-2
-    earlier-requires-4
-    earlier-requires-5
-    returns-4)
+    (tie.spec bad-token-requires returns bad-side-requires unasked returns-2 bad-sweep-requires bad-side-requires-2 unasked unasked
+    returns-3 bad-token-requires-2 unasked unasked returns-4)

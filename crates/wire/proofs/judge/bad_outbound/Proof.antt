@@ -1,4 +1,5 @@
 -- Each answer is the message's line in `Numbered`. Assumes nothing.
+use Rattle.octets.proofs.Needs.{unasked}
 use mathlib.Core.Path.{refl}
 use native.Mathlib.Omega.{arith}
 use borrow.Author.Needs.{needs}
@@ -30,20 +31,11 @@ bad-token-requires-2 c κs =
     let s = c .before .before .before .before .before in
     omega (arith, s .pre .1, long 80 6 7 refl (s .args .k) (search needs) (search needs))
 
-earlier-requires : tie.Need-earlier-requires
-earlier-requires c κs = search needs
-
-earlier-requires-2 : tie.Need-earlier-requires-2
-earlier-requires-2 c κs = search needs
-
 returns-2 : tie.Need-returns-2
 returns-2 c =
     let s = c .before .before .before .before .before .before .before .before in
     let e = replaced-place (s .args .k) (s .args .s .now) (c .before .before .before .if2 .taken) in
     cc
-
-earlier-requires-3 : tie.Need-earlier-requires-3
-earlier-requires-3 c κs = search needs
 
 returns-3 : tie.Need-returns-3
 returns-3 c =
@@ -53,14 +45,4 @@ returns-3 c =
 
 pub bad-outbound-spec : {M : Type 1} → statement M
 bad-outbound-spec =
-    tie.close
-    (tie.spec
-    bad-stamp-requires
-    returns
-    bad-token-requires
-    bad-token-requires-2
-    earlier-requires
-    earlier-requires-2
-    returns-2
-    earlier-requires-3
-    returns-3)
+    tie.close (tie.spec bad-stamp-requires returns bad-token-requires bad-token-requires-2 unasked unasked returns-2 unasked returns-3)

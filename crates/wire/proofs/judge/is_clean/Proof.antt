@@ -6,14 +6,8 @@ use Rattle.wire.proofs.Verdicts.{clean, unclean}
 use Rattle.wire.proofs.judge.is_clean.Statement.{statement}
 use Rattle.wire.proofs.judge.is_clean.Tie as tie
 
-first-bad-requires : tie.Need-first-bad-requires
-first-bad-requires c κs = search needs
-
 enum-told : tie.Need-enum-told
 enum-told c = search needs
-
-enum-told-2 : tie.Need-enum-told-2
-enum-told-2 c = search needs
 
 returns : tie.Need-returns
 returns c =
@@ -28,4 +22,4 @@ returns-2 c =
     sym (unclean (message (a .k) .fields) (a .s .now) (sym (f .first-bad .ensures) ∙ c .enum-told2 .given .1))
 
 pub is-clean-spec : {M : Type 1} → statement M
-is-clean-spec = tie.close (tie.spec first-bad-requires enum-told enum-told-2 returns returns-2)
+is-clean-spec = tie.close (tie.spec (search needs) enum-told (search needs) returns returns-2)

@@ -9,9 +9,6 @@ use Rattle.wire.proofs.Verdicts.{wrong-length, wrong-type, bad-field, l
 use Rattle.wire.proofs.judge.judge.Statement.{statement}
 use Rattle.wire.proofs.judge.judge.Tie as tie
 
-size-requires : tie.Need-size-requires
-size-requires c κs = search needs
-
 returns : tie.Need-returns
 returns c =
     let a = c .before .before .before .args in
@@ -23,17 +20,11 @@ shared-slice-read-if2 c =
     let s = c .before .before .before .before in
     omega (arith, c .before .before .size .ensures, long 10 0 16 refl (s .args .k) (search needs) (s .pre))
 
-letter-of-requires : tie.Need-letter-of-requires
-letter-of-requires c κs = search needs
-
 returns-2 : tie.Need-returns-2
 returns-2 c =
     let a = c .before .before .before .before .before .before .args in
     let whole = c .before .before .before .if1 .left ∙ c .before .before .before .before .size .ensures in
     sym (wrong-type (message (a .k)) (a .s .now) whole (λ e. c .if2 .taken (e ∙ sym (c .before .letter-of .ensures))))
-
-is-clean-requires : tie.Need-is-clean-requires
-is-clean-requires c κs = search needs
 
 returns-3 : tie.Need-returns-3
 returns-3 c =
@@ -52,14 +43,4 @@ returns-4 c =
     sym (bad-field (message (a .k)) (a .s .now) whole typed (sym (f .is-clean .ensures) ∙ c .if3 .left))
 
 pub judge-spec : {M : Type 1} → statement M
-judge-spec =
-    tie.close
-    (tie.spec
-    size-requires
-    returns
-    shared-slice-read-if2
-    letter-of-requires
-    returns-2
-    is-clean-requires
-    returns-3
-    returns-4)
+judge-spec = tie.close (tie.spec (search needs) returns shared-slice-read-if2 (search needs) returns-2 (search needs) returns-3 returns-4)

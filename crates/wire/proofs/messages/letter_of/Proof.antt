@@ -4,11 +4,8 @@ use Rattle.wire.proofs.Numbered.{type-is}
 use Rattle.wire.proofs.messages.letter_of.Statement.{statement}
 use Rattle.wire.proofs.messages.letter_of.Tie as tie
 
-array-read-result : tie.Need-array-read-result
-array-read-result c = search needs
-
 returns : tie.Need-returns
 returns c = type-is (c .args .k) (c .pre)
 
 pub letter-of-spec : {M : Type 1} → statement M
-letter-of-spec = tie.close (tie.spec array-read-result returns)
+letter-of-spec = tie.close (tie.spec (search needs) returns)

@@ -6,20 +6,13 @@ use Rattle.wire.specs.Messages.{messageLength}
 use Rattle.wire.proofs.messages.message_length.Statement.{statement}
 use Rattle.wire.proofs.messages.message_length.Tie as tie
 
-length-among-requires : tie.Need-length-among-requires
-length-among-requires c κs = search needs
-
 returns : tie.Need-returns
 returns c =
     c .length-among .ensures ∙ ap (λ (b : Bool). messageLength b (c .before .before .args .letter)) (sym (c .before .if1 .taken))
-
-length-among-requires-2 : tie.Need-length-among-requires-2
-length-among-requires-2 c κs = search needs
 
 returns-2 : tie.Need-returns-2
 returns-2 c =
     c .length-among2 .ensures ∙ ap (λ (b : Bool). messageLength b (c .before .before .args .letter)) (sym (c .before .if1 .left))
 
 pub message-length-spec : {M : Type 1} → statement M
-message-length-spec =
-    tie.close (tie.spec length-among-requires returns length-among-requires-2 returns-2)
+message-length-spec = tie.close (tie.spec (search needs) returns (search needs) returns-2)

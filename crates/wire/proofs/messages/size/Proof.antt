@@ -5,9 +5,6 @@ use Rattle.wire.proofs.Numbered.{length-fits, length-is}
 use Rattle.wire.proofs.messages.size.Statement.{statement}
 use Rattle.wire.proofs.messages.size.Tie as tie
 
-array-read-result : tie.Need-array-read-result
-array-read-result c = search needs
-
 cast-result : tie.Need-cast-result
 cast-result c = omega (arith, length-fits (c .args .k) (c .pre))
 
@@ -15,4 +12,4 @@ returns : tie.Need-returns
 returns c = length-is (c .args .k) (c .pre)
 
 pub size-spec : {M : Type 1} → statement M
-size-spec = tie.close (tie.spec array-read-result cast-result returns)
+size-spec = tie.close (tie.spec (search needs) cast-result returns)

@@ -1,5 +1,6 @@
 -- The loop's invariant: the first bad byte of the token is the first bad byte of what is left of it. The measure is what is left.
 -- Assumes nothing.
+use Rattle.octets.proofs.Needs.{unasked}
 use mathlib.Core.Path.{_≡_, sym, ap, _∙_}
 use mathlib.Core.Bool.{true, false}
 use Prim.Native.Nat.{ℕ, _+_, _-_, _≤_}
@@ -19,26 +20,11 @@ Inv-loop s at end i₀ i = (i ≤ end) × (badTokenByte at (part s at 14) ≡ ba
 abbrev μ-loop : tie.MeasureT-loop
 μ-loop s at end i₀ i = end - i
 
-add-end : tie.Need-add-end Inv-loop μ-loop
-add-end c = search needs
-
 loop-holds : tie.Need-loop-holds Inv-loop μ-loop
 loop-holds c =
     let a = c .before .args in
     let e : a .at + 14 - a .at ≡ 14 = omega arith in
     (search needs, ap (λ (n : ℕ). badTokenByte (a .at) (part (a .s .now) (a .at) n)) (sym e))
-
-shared-slice-read-is-token-byte : tie.Need-shared-slice-read-is-token-byte Inv-loop μ-loop
-shared-slice-read-is-token-byte c = search needs
-
-is-token-byte-requires : tie.Need-is-token-byte-requires Inv-loop μ-loop
-is-token-byte-requires c κs = search needs
-
-add-i : tie.Need-add-i Inv-loop μ-loop
-add-i c = search needs
-
-loop-less : tie.Need-loop-less Inv-loop μ-loop
-loop-less c = search needs
 
 loop-again : tie.Need-loop-again Inv-loop μ-loop
 loop-again c =
@@ -65,15 +51,4 @@ returns-2 c =
 pub bad-token-spec : {M : Type 1} → statement M
 bad-token-spec =
     tie.close
-    (tie.spec
-    Inv-loop
-    μ-loop
-    add-end
-    loop-holds
-    shared-slice-read-is-token-byte
-    is-token-byte-requires
-    add-i
-    loop-less
-    loop-again
-    returns
-    returns-2)
+    (tie.spec Inv-loop μ-loop (search needs) loop-holds (search needs) unasked (search needs) (search needs) loop-again returns returns-2)

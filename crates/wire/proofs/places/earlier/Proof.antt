@@ -3,12 +3,6 @@ use borrow.Author.Needs.{needs}
 use Rattle.wire.proofs.places.earlier.Statement.{statement}
 use Rattle.wire.proofs.places.earlier.Tie as tie
 
-enum-told : tie.Need-enum-told
-enum-told c = search needs
-
-enum-known-a : tie.Need-enum-known-a
-enum-known-a c = search needs
-
 returns : tie.Need-returns
 returns c = search needs
 
@@ -16,4 +10,4 @@ returns-2 : tie.Need-returns-2
 returns-2 c = cc
 
 pub earlier-spec : {M : Type 1} → statement M
-earlier-spec = tie.close (tie.spec enum-told enum-known-a returns returns-2)
+earlier-spec = tie.close (tie.spec (search needs) (search needs) returns returns-2)

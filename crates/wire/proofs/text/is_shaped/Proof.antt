@@ -1,5 +1,6 @@
 -- The loop's invariant: the text is shaped where what was seen is and the rest may follow it. The measure is what is left of the length.
 -- Assumes nothing.
+use Rattle.octets.proofs.Needs.{unasked}
 use mathlib.Core.Path.{_≡_, sym, ap, _∙_}
 use mathlib.Core.Bool.{Bool, false, _&&_}
 use Prim.Native.Nat.{_-_}
@@ -19,31 +20,10 @@ abbrev μ-loop : tie.MeasureT-loop
 returns : tie.Need-returns Inv-loop μ-loop
 returns c = sym (shaped-none (c .before .before .args .s .now) (c .if1 .taken))
 
-shared-slice-read-is-capital : tie.Need-shared-slice-read-is-capital Inv-loop μ-loop
-shared-slice-read-is-capital c = search needs
-
-is-capital-requires : tie.Need-is-capital-requires Inv-loop μ-loop
-is-capital-requires c κs = search needs
-
 loop-holds : tie.Need-loop-holds Inv-loop μ-loop
 loop-holds c =
     let a = c .before .before .before .before .args in
     shaped-first (a .s .now) (search needs) ∙ ap (λ (b : Bool). b && rest false (drop 1 (a .s .now))) (sym (c .is-capital .ensures))
-
-shared-slice-read-space : tie.Need-shared-slice-read-space Inv-loop μ-loop
-shared-slice-read-space c = search needs
-
-shared-slice-read-is-capital-2 : tie.Need-shared-slice-read-is-capital-2 Inv-loop μ-loop
-shared-slice-read-is-capital-2 c = search needs
-
-is-capital-requires-2 : tie.Need-is-capital-requires-2 Inv-loop μ-loop
-is-capital-requires-2 c κs = search needs
-
-add-i : tie.Need-add-i Inv-loop μ-loop
-add-i c = search needs
-
-loop-less : tie.Need-loop-less Inv-loop μ-loop
-loop-less c = search needs
 
 loop-again : tie.Need-loop-again Inv-loop μ-loop
 loop-again c =
@@ -60,17 +40,5 @@ returns-2 c =
 pub is-shaped-spec : {M : Type 1} → statement M
 is-shaped-spec =
     tie.close
-    (tie.spec
-    Inv-loop
-    μ-loop
-    returns
-    shared-slice-read-is-capital
-    is-capital-requires
-    loop-holds
-    shared-slice-read-space
-    shared-slice-read-is-capital-2
-    is-capital-requires-2
-    add-i
-    loop-less
-    loop-again
-    returns-2)
+    (tie.spec Inv-loop μ-loop returns (search needs) unasked loop-holds (search needs) (search needs) unasked (search needs) (search needs)
+    loop-again returns-2)

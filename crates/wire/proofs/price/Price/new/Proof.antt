@@ -1,11 +1,8 @@
 -- The two tests are the definition's. Assumes nothing.
-use borrow.Author.Needs.{needs}
+use Rattle.octets.proofs.Needs.{unasked}
 use Rattle.wire.specs.Price.{pricedOf, goodPrice}
 use Rattle.wire.proofs.price.Price.new.Statement.{statement}
 use Rattle.wire.proofs.price.Price.new.Tie as tie
-
-is-opening-or-closing-requires : tie.Need-is-opening-or-closing-requires
-is-opening-or-closing-requires c κs = search needs
 
 returns : tie.Need-returns
 unfolding pricedOf goodPrice
@@ -20,4 +17,4 @@ returns-2 c =
     simp (← e, c .if1 .left)
 
 pub new-spec : {M : Type 1} → statement M
-new-spec = tie.close (tie.spec is-opening-or-closing-requires returns returns-2)
+new-spec = tie.close (tie.spec unasked returns returns-2)
