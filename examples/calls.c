@@ -11,7 +11,7 @@ static const char enter[] = "O\0\0\0\0\0\0\0\2TOKEN1        B\0\0\1\364ABC     \
 static const char cancel[] = "X\0\0\0\0\0\0\0\3TOKEN1        \0\0\0\0";
 static const char message[] = "XTOKEN1        \0\0\0\0";
 
-static uint8_t table[64 + 80], ring[80], out[80];
+static uint8_t table[PQ_TABLE_SIZE(1)], ring[PQ_SHORTEST_RING], out[PQ_LONGEST_MESSAGE];
 static size_t at, held;
 static int calls, wrong;
 
@@ -29,22 +29,22 @@ static uint8_t step(const uint8_t *entry, size_t length)
 
 static void freshes(void)
 {
-    is("fresh of 143 bytes, threshold 0", 10, pq_fresh(table, 143, 0, BYTES("ABCD")));
-    is("fresh, threshold 0", 3, pq_fresh(table, sizeof table, 0, BYTES("ABCD")));
-    is("fresh, firms of 5 bytes", 3, pq_fresh(table, sizeof table, 1000000, BYTES("ABCDE")));
-    is("fresh, nine firms", 3, pq_fresh(table, sizeof table, 1000000, BYTES("A   B   C   D   E   F   G   H   I   ")));
-    is("fresh", 0, pq_fresh(table, sizeof table, 1000000, BYTES("ABCD")));
+    is("fresh of 143 bytes, threshold 0", PQ_NOT_SOUND, pq_fresh(table, 143, 0, BYTES("ABCD")));
+    is("fresh, threshold 0", PQ_BAD_FIELD, pq_fresh(table, sizeof table, 0, BYTES("ABCD")));
+    is("fresh, firms of 5 bytes", PQ_BAD_FIELD, pq_fresh(table, sizeof table, PQ_HIGHEST_THRESHOLD, BYTES("ABCDE")));
+    is("fresh, nine firms", PQ_BAD_FIELD, pq_fresh(table, sizeof table, PQ_HIGHEST_THRESHOLD, BYTES("A   B   C   D   E   F   G   H   I   ")));
+    is("fresh", PQ_DONE, pq_fresh(table, sizeof table, PQ_HIGHEST_THRESHOLD, BYTES("ABCD")));
 }
 
 static void steps(void)
 {
-    is("step of nothing", 2, step(BYTES("")));
-    is("start of the day", 0, step(BYTES(start)));
+    is("step of nothing", PQ_MALFORMED, step(BYTES("")));
+    is("start of the day", PQ_DONE, step(BYTES(start)));
     is("held after it", 10, held);
-    is("start again", 7, step(BYTES(start)));
-    is("enter, 70 free", 0, step(BYTES(enter)));
+    is("start again", PQ_WRONG_MOMENT, step(BYTES(start)));
+    is("enter, 70 free", PQ_DONE, step(BYTES(enter)));
     is("held after it", 76, held);
-    is("cancel, 4 free", 9, step(BYTES(cancel)));
+    is("cancel, 4 free", PQ_BLOCKED, step(BYTES(cancel)));
     is("held after it", 76, held);
 }
 
@@ -52,14 +52,14 @@ static void releases(void)
 {
     is("read", 76, pq_read(ring, sizeof ring, at, held));
     is("type of the first", 'S', ring[at]);
-    is("release of 77", 12, pq_release(sizeof ring, &at, &held, 77));
-    is("release of 10", 0, pq_release(sizeof ring, &at, &held, 10));
+    is("release of 77", PQ_NOT_HELD, pq_release(sizeof ring, &at, &held, 77));
+    is("release of 10", PQ_DONE, pq_release(sizeof ring, &at, &held, 10));
     is("type of the next", 'A', ring[at]);
-    is("release of 66", 0, pq_release(sizeof ring, &at, &held, 66));
+    is("release of 66", PQ_DONE, pq_release(sizeof ring, &at, &held, 66));
     is("read of nothing", 0, pq_read(ring, sizeof ring, at, held));
-    is("cancel again, at 76 of 80", 0, step(BYTES(cancel)));
+    is("cancel again, at 76 of 80", PQ_DONE, step(BYTES(cancel)));
     is("read up to the ring's end", 4, pq_read(ring, sizeof ring, at, held));
-    is("release of it", 0, pq_release(sizeof ring, &at, &held, 4));
+    is("release of it", PQ_DONE, pq_release(sizeof ring, &at, &held, 4));
     is("read of the rest", 24, pq_read(ring, sizeof ring, at, held));
     is("place around the ring", 0, at);
 }
@@ -67,20 +67,58 @@ static void releases(void)
 static void wrongs(void)
 {
     size_t past = sizeof ring, none = 0;
-    is("step with a place past the ring", 11, pq_step(table, sizeof table, ring, sizeof ring, &past, &none, BYTES(cancel)));
+    is("step with a place past the ring", PQ_WRONG_RING, pq_step(table, sizeof table, ring, sizeof ring, &past, &none, BYTES(cancel)));
     is("read with it", 0, pq_read(ring, sizeof ring, past, 1));
-    is("release of 1 with it", 11, pq_release(sizeof ring, &past, &none, 1));
+    is("release of 1 with it", PQ_WRONG_RING, pq_release(sizeof ring, &past, &none, 1));
     table[0] = 3;
-    is("step on a damaged table", 10, step(BYTES(cancel)));
+    is("step on a damaged table", PQ_NOT_SOUND, step(BYTES(cancel)));
 }
 
 static void echoes(void)
 {
-    is("echo", 0, pq_echo(1, BYTES(message), out, sizeof out));
+    is("echo", PQ_DONE, pq_echo(1, BYTES(message), out, sizeof out));
     is("echoed bytes differ", 0, memcmp(out, message, sizeof message - 1) != 0);
-    is("echo as the host's", 2, pq_echo(0, BYTES(message), out, sizeof out));
-    is("echo with a bad token into 18 bytes", 3, pq_echo(1, BYTES("XTOKEN!        \0\0\0\0"), out, 18));
-    is("echo into 18 bytes", 13, pq_echo(1, BYTES(message), out, 18));
+    is("echo as the host's", PQ_MALFORMED, pq_echo(0, BYTES(message), out, sizeof out));
+    is("echo with a bad token into 18 bytes", PQ_BAD_FIELD, pq_echo(1, BYTES("XTOKEN!        \0\0\0\0"), out, 18));
+    is("echo into 18 bytes", PQ_NO_ROOM, pq_echo(1, BYTES(message), out, 18));
+}
+
+/* Where a length is 0 there need be no memory. */
+static void nothings(void)
+{
+    size_t zero = 0, none = 0;
+    is("fresh of no table", PQ_NOT_SOUND, pq_fresh(NULL, 0, 1, BYTES("A   ")));
+    is("fresh without firms", PQ_BAD_FIELD, pq_fresh(table, sizeof table, 1, NULL, 0));
+    is("fresh", PQ_DONE, pq_fresh(table, sizeof table, 1, BYTES("A   ")));
+    is("step on no table", PQ_NOT_SOUND, pq_step(NULL, 0, ring, sizeof ring, &zero, &none, BYTES(start)));
+    is("step without a ring", PQ_WRONG_RING, pq_step(table, sizeof table, NULL, 0, &zero, &none, BYTES(start)));
+    is("step of no entry", PQ_MALFORMED, pq_step(table, sizeof table, ring, sizeof ring, &zero, &none, NULL, 0));
+    is("read of no ring", 0, pq_read(NULL, 0, 0, 0));
+    is("echo of no message", PQ_MALFORMED, pq_echo(1, NULL, 0, out, sizeof out));
+    is("echo into no buffer", PQ_NO_ROOM, pq_echo(1, BYTES(message), NULL, 0));
+}
+
+/* The lengths of all kinds and types, and that there are no others. */
+static void lengths(void)
+{
+    static const char kinds[] = "OUXMecqplfs", client[] = "OUXM", host[] = "SAUCDEBJPITM";
+    static const size_t entries[] = {56, 55, 27, 28, 40, 28, 36, 27, 23, 23, 10};
+    static const size_t clients[] = {48, 47, 19, 20}, hosts[] = {10, 66, 80, 28, 37, 40, 32, 24, 23, 23, 36, 28};
+    size_t others = 0, longest_entry = 0, longest_message = 0;
+    for (int letter = 0; letter < 256; letter++) {
+        const char *kind = letter ? strchr(kinds, letter) : NULL;
+        const char *in = letter ? strchr(client, letter) : NULL, *sent = letter ? strchr(host, letter) : NULL;
+        size_t entry = pq_entry_length((uint8_t)letter), message_sent = pq_message_length(0, (uint8_t)letter);
+        others += entry != (kind ? entries[kind - kinds] : 0);
+        others += pq_message_length(1, (uint8_t)letter) != (in ? clients[in - client] : 0);
+        others += pq_message_length(255, (uint8_t)letter) != (in ? clients[in - client] : 0);
+        others += message_sent != (sent ? hosts[sent - host] : 0);
+        longest_entry = entry > longest_entry ? entry : longest_entry;
+        longest_message = message_sent > longest_message ? message_sent : longest_message;
+    }
+    is("lengths of 256 kinds and types that are others", 0, others);
+    is("the longest entry", PQ_LONGEST_ENTRY, longest_entry);
+    is("the longest message", PQ_LONGEST_MESSAGE, longest_message);
 }
 
 int main(void)
@@ -90,6 +128,8 @@ int main(void)
     releases();
     wrongs();
     echoes();
+    nothings();
+    lengths();
     printf("%d of %d answered as they should\n", calls - wrong, calls);
     return wrong > 0;
 }

@@ -1,37 +1,99 @@
-/* A driver in C: plays the tape on standard input through a fresh host, and writes what the host sends to standard output. */
+/*
+ * A driver in C with the shortest ring and a slow reader: plays the tape on standard input, and writes what the host sends to standard output.
+ * An entry that is blocked waits until the reader has made room, so what is sent is what a roomy ring would send; the driver plays the tape
+ * beside one to show it.
+ */
 #include "pilaqsevi.h"
 
 #include <stdio.h>
 #include <string.h>
 
-static uint8_t table[64 + 80 * 800], ring[4096];
-static size_t at, held;
+/* The roomy ring, and the most that the reader takes at a time. */
+#define ROOMY 4096
+#define SLOW 12
 
-/* Reads the next entry: its kind says how long it is. What is no whole entry is handed on, and the host answers 2. */
-static size_t next(uint8_t *entry)
+/* A host: what is lent to it with each call. */
+struct desk {
+    uint8_t table[PQ_TABLE_SIZE(PQ_MOST_RECORDS)];
+    uint8_t ring[ROOMY];
+    size_t ring_len, at, held;
+};
+
+static struct desk small, roomy;
+static size_t blocked, sent;
+static int differs;
+
+static void open_desk(struct desk *desk, size_t ring_len)
 {
-    static const char kinds[] = "OUXMecqplfs";
-    static const uint8_t lengths[] = {56, 55, 27, 28, 40, 28, 36, 27, 23, 23, 10};
+    desk->ring_len = ring_len;
+    pq_fresh(desk->table, sizeof desk->table, PQ_HIGHEST_THRESHOLD, (const uint8_t *)"ABCD", PQ_FIRM_SIZE);
+}
+
+static uint8_t offer(struct desk *desk, const uint8_t *entry, size_t length)
+{
+    return pq_step(desk->table, sizeof desk->table, desk->ring, desk->ring_len, &desk->at, &desk->held, entry, length);
+}
+
+/* The reader takes at most k bytes of the unbroken run into `out`, and gives them up. */
+static size_t take(struct desk *desk, size_t k, uint8_t *out)
+{
+    size_t run = pq_read(desk->ring, desk->ring_len, desk->at, desk->held);
+    size_t taken = run < k ? run : k;
+    memcpy(out, desk->ring + desk->at, taken);
+    pq_release(desk->ring_len, &desk->at, &desk->held, taken);
+    return taken;
+}
+
+/* The slow reader takes a piece and sends it on. The roomy ring's reader takes as much, which has to be the same. */
+static void read_piece(void)
+{
+    uint8_t piece[SLOW], roomys[SLOW];
+    size_t taken = take(&small, SLOW, piece);
+    size_t there = take(&roomy, taken, roomys);
+    there += take(&roomy, taken - there, roomys + there); /* the rest, where that ring wraps */
+    differs |= there != taken || memcmp(piece, roomys, taken) != 0;
+    fwrite(piece, 1, taken, stdout);
+    sent += taken;
+}
+
+/* Reads the next entry: its kind says how long it is. What is no whole entry is handed on, and the host answers PQ_MALFORMED. */
+static size_t next_entry(uint8_t *entry)
+{
     int kind = getchar();
     if (kind == EOF)
         return 0;
     entry[0] = (uint8_t)kind;
-    const char *place = kind ? strchr(kinds, kind) : NULL;
-    return place ? 1 + fread(entry + 1, 1, lengths[place - kinds] - 1, stdin) : 1;
+    size_t length = pq_entry_length(entry[0]);
+    return length > 0 ? 1 + fread(entry + 1, 1, length - 1, stdin) : 1;
+}
+
+/* Offers an entry, and where it is blocked lets the reader make room and offers it again: it is never lost, and never half sent. */
+static uint8_t offer_until_taken(const uint8_t *entry, size_t length)
+{
+    uint8_t answer;
+    while ((answer = offer(&small, entry, length)) == PQ_BLOCKED) {
+        size_t held = small.held;
+        read_piece();
+        blocked++;
+        fprintf(stderr, "%c answered 9, %zu of %zu held; %zu bytes read and released\n", entry[0], held, small.ring_len, held - small.held);
+    }
+    fprintf(stderr, "%c answered %d, %zu of %zu held\n", entry[0], answer, small.held, small.ring_len);
+    return answer;
 }
 
 int main(void)
 {
-    uint8_t entry[56];
-    uint8_t answer = pq_fresh(table, sizeof table, 1000000, (const uint8_t *)"ABCD", 4);
-    for (size_t length; answer != 2 && (length = next(entry)) > 0;) {
-        answer = pq_step(table, sizeof table, ring, sizeof ring, &at, &held, entry, length);
-        fprintf(stderr, "%c %d\n", entry[0], answer);
-        while (held > 0) {
-            size_t run = pq_read(ring, sizeof ring, at, held);
-            fwrite(ring + at, 1, run, stdout);
-            pq_release(sizeof ring, &at, &held, run);
-        }
+    uint8_t entry[PQ_LONGEST_ENTRY], answer = PQ_DONE;
+    open_desk(&small, PQ_SHORTEST_RING);
+    open_desk(&roomy, ROOMY);
+    for (size_t length; answer != PQ_MALFORMED && (length = next_entry(entry)) > 0;) {
+        uint8_t roomys = offer(&roomy, entry, length);
+        answer = offer_until_taken(entry, length);
+        differs |= answer != roomys;
     }
-    return 0;
+    while (small.held > 0)
+        read_piece();
+    fprintf(stderr, "%zu bytes sent, %zu offers blocked; through a ring of %zu %s\n", sent, blocked, roomy.ring_len,
+            differs || roomy.held > 0 ? "it is something else" : "the stream is the same");
+    return differs || roomy.held > 0;
 }

@@ -1,22 +1,15 @@
 /*
- * Pilaqsevi: the proved core of a practice order host for OUCH 4.2 clients, for C.
+ * Pilaqsevi: the proved core of a practice order host for OUCH 4.2 clients, for C and C++.
  *
  * All memory is the caller's. A function reads and writes the bytes that it is given while it runs, keeps no pointer, allocates nothing and
- * holds no state of its own. Pointers and lengths must be true, a pointer must be good even where its length is 0, and memory that one call
- * is given to write must not overlap anything else that it is given. Nothing else is asked: every other value is judged and answered.
+ * holds no state of its own. Pointers and lengths must be true, and memory that one call is given to write must not overlap anything else that
+ * it is given. Where a length is 0 its pointer is not followed and may be NULL; `at` and `held` are pointers to one number each and may not.
+ * Nothing else is asked: every other value is judged and answered.
  *
- * Answers are the numbers of the rule paper, in its order of checking:
- *   10 table not sound            11 ring length or marks wrong
- *    2 kind or type unknown, or length not the kind's
- *    3 a stamp, token, letter, price or setting is bad
- *    4 stamp below the last       1 ignored              5 token not live
- *    7 wrong moment               6 shares 0 or above open
- *    8 no free record, or no reference left
- *    9 no room in the ring for the message
- *   12 release above the held count
- *   13 buffer too short
- *    0 done
- * Only 0 changes anything: after any other answer every byte and mark is what it was.
+ * Threads: there is no state but what is lent, so calls on different tables and rings may run at once; calls that share a table, a ring or its
+ * marks may not, unless none of them writes it. There is no lock inside.
+ *
+ * Linking: the archive calls memcpy and memset of the C library and nothing else.
  */
 #ifndef PILAQSEVI_H
 #define PILAQSEVI_H
@@ -29,19 +22,57 @@ extern "C" {
 #endif
 
 /*
+ * What a call answers. Each function names the answers that it can give, in the order in which they are asked for; the first that applies
+ * is given. Only PQ_DONE changes anything: after any other answer every byte and mark is what it was.
+ */
+enum pq_answer {
+    PQ_DONE = 0,
+    PQ_IGNORED = 1,      /* ignored by the rules */
+    PQ_MALFORMED = 2,    /* kind or type unknown, or length not the kind's */
+    PQ_BAD_FIELD = 3,    /* a stamp, token, letter, price or setting is bad */
+    PQ_TOO_EARLY = 4,    /* stamp below the last stamp */
+    PQ_NOT_LIVE = 5,     /* token not live */
+    PQ_WRONG_SHARES = 6, /* shares 0 or above open */
+    PQ_WRONG_MOMENT = 7,
+    PQ_FULL = 8,         /* no record is free, or no reference is left */
+    PQ_BLOCKED = 9,      /* the message is longer than what is free in the ring: release, and offer the entry again */
+    PQ_NOT_SOUND = 10,   /* table not sound */
+    PQ_WRONG_RING = 11,  /* ring length or marks wrong */
+    PQ_NOT_HELD = 12,    /* release above the held count */
+    PQ_NO_ROOM = 13      /* buffer too short for the echo's message */
+};
+
+/* Sizes in bytes, and limits. */
+#define PQ_HEADER_SIZE 64
+#define PQ_RECORD_SIZE 80
+#define PQ_FEWEST_RECORDS 1
+#define PQ_MOST_RECORDS 800
+#define PQ_FIRM_SIZE 4
+#define PQ_MOST_FIRMS 8
+#define PQ_LOWEST_THRESHOLD 1
+#define PQ_HIGHEST_THRESHOLD 1000000
+#define PQ_SHORTEST_RING 80
+#define PQ_LONGEST_RING 65536
+#define PQ_LONGEST_ENTRY 56   /* kind and stamp included */
+#define PQ_LONGEST_MESSAGE 80 /* as long as the shortest ring, so a ring that holds nothing has room for any message */
+
+/* The bytes of a table with so many records. */
+#define PQ_TABLE_SIZE(records) (PQ_HEADER_SIZE + PQ_RECORD_SIZE * (records))
+
+/*
  * Makes the bytes at `table` a fresh table: day not begun, no record used, next reference 1, these settings, zeros elsewhere.
- * A table is 64 + 80n bytes, n from 1 to 800. The threshold is 1 to 1,000,000. The firms are 1 to 8 codes of 4 bytes, one after the other,
- * each 1 to 4 capitals and then spaces; the first is the default.
- * Answers 10 for a bad table_len; then 3 for bad settings, a firms_len that is no row of codes among them; then 0.
+ * Its length is PQ_TABLE_SIZE of 1 to 800 records. The firms are 1 to 8 codes, one after the other, each 1 to 4 capitals and then spaces; the
+ * first is the default. firms_len counts bytes.
+ * Answers PQ_NOT_SOUND for a bad table_len; PQ_BAD_FIELD for bad settings, a firms_len that is no row of codes among them; PQ_DONE.
  */
 uint8_t pq_fresh(uint8_t *table, size_t table_len, uint32_t threshold, const uint8_t *firms, size_t firms_len);
 
 /*
- * Takes one entry: judges table, ring, marks and entry, decides, and where the answer is 0 writes the table and puts the entry's message, if
- * it has one, right behind the held bytes of the ring, which may wrap at its end; *held grows by the message's length and *at stays.
+ * Takes one entry: judges table, ring, marks and entry, decides, and where the answer is PQ_DONE writes the table and puts the entry's message,
+ * if it has one, right behind the held bytes of the ring, which may wrap at its end; *held grows by the message's length and *at stays.
  * The ring has 80 to 65,536 bytes, *at is below its length and *held at most its length. No other byte of table and ring changes.
- * Answers 10, 11, 2, 3, 4, 1, 5, 7, 6, 8, 9 or 0, the first that applies. An entry that was answered 9 may be offered again once bytes were
- * released, and comes to the same.
+ * Answers PQ_NOT_SOUND, PQ_WRONG_RING, PQ_MALFORMED, PQ_BAD_FIELD, PQ_TOO_EARLY, PQ_IGNORED, PQ_NOT_LIVE, PQ_WRONG_MOMENT, PQ_WRONG_SHARES,
+ * PQ_FULL, PQ_BLOCKED or PQ_DONE. An entry that was answered PQ_BLOCKED may be offered again once bytes were released, and comes to the same.
  */
 uint8_t pq_step(uint8_t *table, size_t table_len, uint8_t *ring, size_t ring_len, size_t *at, size_t *held, const uint8_t *entry, size_t entry_len);
 
@@ -53,16 +84,29 @@ size_t pq_read(const uint8_t *ring, size_t ring_len, size_t at, size_t held);
 
 /*
  * Gives up the oldest k held bytes: *at moves on by k around the ring, and *held is lowered by k. No byte of the ring moves.
- * Answers 11 for a wrong ring_len or wrong marks, 12 where k is above *held, and 0. A release of 0 bytes is done.
+ * Answers PQ_WRONG_RING for a wrong ring_len or wrong marks; PQ_NOT_HELD where k is above *held; PQ_DONE. A release of 0 bytes is done.
  */
 uint8_t pq_release(size_t ring_len, size_t *at, size_t *held, size_t k);
 
 /*
  * Reads the message, as one of a client's where `inbound` is not 0 and otherwise as one of the host's, and writes it to the front of `out`.
- * Where the answer is 0 the first `len` bytes of `out` are the message's and the others are what they were.
- * Answers 2 for an unknown type or a length that is not the type's, 3 for a bad stamp, token, side or sweep, 13 where out_len is too short.
+ * Where the answer is PQ_DONE the first `len` bytes of `out` are the message's and the others are what they were.
+ * Answers PQ_MALFORMED for an unknown type or a length that is not the type's; PQ_BAD_FIELD for a bad stamp, token, side or sweep; PQ_NO_ROOM
+ * where out_len is too short; PQ_DONE.
  */
 uint8_t pq_echo(uint8_t inbound, const uint8_t *message, size_t len, uint8_t *out, size_t out_len);
+
+/*
+ * The length of an entry of this kind, the byte of kind and the stamp included; 0 where there is no such kind. A driver that cuts a tape
+ * into entries hands what has no kind to pq_step as it is, one byte, and gets PQ_MALFORMED.
+ */
+size_t pq_entry_length(uint8_t kind);
+
+/*
+ * The length of the message of this type, its type included, among a client's four where `inbound` is not 0 and otherwise among the host's
+ * twelve; 0 where there is no such type. It cuts what is read from the ring into messages.
+ */
+size_t pq_message_length(uint8_t inbound, uint8_t type);
 
 #ifdef __cplusplus
 }

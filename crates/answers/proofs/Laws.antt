@@ -1,6 +1,5 @@
 -- Done is the one answer whose number is 0. Assumes nothing.
-use mathlib.Core.Path.{_≡_, refl, sym, ap, _∙_}
-use mathlib.Core.Bool.{true, false, false≢true}
+use Rattle.octets.proofs.Proving.{_∙_, _≡_, ap, false, false≢true, refl, sym, true}
 use Rattle.answers.specs.Answer.{Answer, NotSound, WrongRing, Malformed, BadField, TooEarly, Ignored, NotLive, WrongMoment, WrongShares, Full, Blocked, NotHeld, NoRoom, Done, isDone}
 
 pub is-done : (a : Answer) → isDone a ≡ true → a ≡ Done

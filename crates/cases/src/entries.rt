@@ -1,19 +1,24 @@
 // Entries spelled byte by byte, not through the layouts, so that a wrong offset there shows here.
+use crate::run::NOWHERE;
 use crate::run::Run;
-use tape::kinds::length_of;
+use crate::text::part;
+use crate::text::put;
+use tape::kinds::entry_length;
+ghost use Prim.Native.Nat.{_<_};
 
-// Where an entry has what a script sets; PAST for what a kind does not have. The number of a p is its price.
-const PAST: usize = 56;
+// How long a shape is.
+const SHAPE: usize = 56;
 
+// Where an entry has what a script sets; NOWHERE for what a kind does not have. The number of a p is its price.
 fn name_at(kind: u8) -> usize {
     match kind {
-        b's' | b'E' => PAST,
+        b's' | b'E' => NOWHERE,
         _ => 9,
     }
 }
 
 fn replacement_at(kind: u8) -> usize {
-    if kind == b'U' { 23 } else { PAST }
+    if kind == b'U' { 23 } else { NOWHERE }
 }
 
 fn shares_at(kind: u8) -> usize {
@@ -21,7 +26,7 @@ fn shares_at(kind: u8) -> usize {
         b'O' | b'M' => 24,
         b'U' => 37,
         b'X' | b'e' | b'c' | b'q' | b'p' => 23,
-        _ => PAST,
+        _ => NOWHERE,
     }
 }
 
@@ -31,7 +36,7 @@ fn price_at(kind: u8) -> usize {
         b'U' => 41,
         b'e' => 27,
         b'q' => 31,
-        _ => PAST,
+        _ => NOWHERE,
     }
 }
 
@@ -39,31 +44,66 @@ fn time_at(kind: u8) -> usize {
     match kind {
         b'O' => 40,
         b'U' => 45,
-        _ => PAST,
+        _ => NOWHERE,
+    }
+}
+
+fn minimum_at(kind: u8) -> usize {
+    match kind {
+        b'O' | b'U' => 51,
+        _ => NOWHERE,
+    }
+}
+
+fn firm_at(kind: u8) -> usize {
+    if kind == b'O' { 44 } else { NOWHERE }
+}
+
+// Which of the shapes below is the kind's.
+fn place_of(kind: u8) -> usize
+    ensures { λ r. ⌜ r < 13 ⌝ }
+{
+    match kind {
+        b'O' => 0,
+        b'U' => 1,
+        b'X' => 2,
+        b'M' => 3,
+        b'e' => 4,
+        b'c' => 5,
+        b'q' => 6,
+        b'p' => 7,
+        b'l' => 8,
+        b'f' => 9,
+        b's' => 10,
+        b'E' => 11,
+        _ => 12,
     }
 }
 
 fn cross_at(kind: u8) -> usize {
-    if kind == b'O' { 55 } else { PAST }
+    if kind == b'O' { 55 } else { NOWHERE }
 }
 
 // The letters of each kind, with dots where the numbers go: buy ABC for a blank firm. E is the end of the day, Z no kind at all.
 fn shape(kind: u8) -> [u8; 56] {
-    match kind {
-        b'O' => *b"O........A             B....ABC     ........    YAN\0\0\0\0N",
-        b'U' => *b"U........A             B             ............YN\0\0\0\0 ",
-        b'X' => *b"X........A             ....                             ",
-        b'M' => *b"M........A             B....                            ",
-        b'e' => *b"e........A             ........A\0\0\0\0\0\0\0\x07                ",
-        b'c' => *b"c........A             ....T                            ",
-        b'q' => *b"q........A             ....\0\0\0\0....A                    ",
-        b'p' => *b"p........A             ....                             ",
-        b'l' => *b"l........A                                              ",
-        b'f' => *b"f........A                                              ",
-        b's' => *b"s........S                                              ",
-        b'E' => *b"s........E                                              ",
-        _ => *b"Z........A                                              ",
-    }
+    let shapes = b"\
+O........A             B....ABC     ........    YAN....N\
+U........A             B             ............YN.... \
+X........A             ....                             \
+M........A             B....                            \
+e........A             ........A\0\0\0\0\0\0\0\x07                \
+c........A             ....T                            \
+q........A             ....\0\0\0\0....A                    \
+p........A             ....                             \
+l........A                                              \
+f........A                                              \
+s........S                                              \
+s........E                                              \
+Z........A                                              ";
+    let mut bytes = [0u8; 56];
+    let at = SHAPE * place_of(kind);
+    put(&mut bytes, 0, part(shapes, at, at + SHAPE));
+    bytes
 }
 
 fn set_byte(entry: &mut [u8], at: usize, b: u8) {
@@ -82,18 +122,27 @@ fn set_number(entry: &mut [u8], at: usize, width: usize, n: u64) {
     octets::put_number(entry, at, width, n);
 }
 
-// A replace of A brings B, and one of any other token brings A, unless it names its own.
+// A replace brings B, unless it names its own token twice.
 fn replacement(run: Run) -> u8 {
-    if run.twice {
-        return run.name;
-    }
-    if run.name == b'A' { b'B' } else { b'A' }
+    if run.twice { run.name } else { b'B' }
 }
 
 fn set_letters(entry: &mut [u8], run: Run, kind: u8) {
     set_byte(entry, name_at(kind), run.name);
     set_byte(entry, replacement_at(kind), replacement(run));
     set_byte(entry, cross_at(kind), run.cross);
+    set_byte(entry, firm_at(kind), run.firm);
+}
+
+fn set_terms(entry: &mut [u8], run: Run, kind: u8) {
+    set_number(entry, price_at(kind), 4, run.price as u64);
+    set_number(entry, time_at(kind), 4, run.time as u64);
+    set_number(entry, minimum_at(kind), 4, run.minimum as u64);
+}
+
+fn spoil(entry: &mut [u8], run: Run) {
+    set_byte(entry, run.spoiled, 255);
+    set_byte(entry, run.also, 255);
 }
 
 // The entry that a script's letter and number stand for, at the front of 56 bytes.
@@ -102,8 +151,8 @@ pub fn entry(run: Run, kind: u8, n: u32) -> [u8; 56] {
     set_letters(&mut bytes, run, kind);
     set_number(&mut bytes, 1, 8, run.stamp as u64 * 1_000_000_000);
     set_number(&mut bytes, shares_at(kind), 4, n as u64);
-    set_number(&mut bytes, price_at(kind), 4, run.price as u64);
-    set_number(&mut bytes, time_at(kind), 4, run.time as u64);
+    set_terms(&mut bytes, run, kind);
+    spoil(&mut bytes, run);
     bytes
 }
 
@@ -117,6 +166,6 @@ fn whole_size(kind: u8) -> usize {
     match kind {
         b'E' => 10,
         b'Z' => 23,
-        _ => length_of(kind),
+        _ => entry_length(kind),
     }
 }

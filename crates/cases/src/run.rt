@@ -1,6 +1,15 @@
 // What a script has set so far, and what came of the last entry.
 use outbox::marks::Marks;
 
+// The answer, how many bytes were held before, whether a byte of table or ring or a mark has changed, and whether the first record's 80 bytes
+// are what they were.
+pub struct Last {
+    pub answer: u8,
+    pub before: usize,
+    pub changed: bool,
+    pub intact: bool,
+}
+
 pub struct Run {
     pub marks: Marks,
     // the length of the ring
@@ -10,20 +19,26 @@ pub struct Run {
     pub twice: bool,
     pub price: u32,
     pub time: u32,
+    pub minimum: u32,
     pub cross: u8,
+    // the first letter of the firm
+    pub firm: u8,
+    // two places whose bytes are spoiled
+    pub spoiled: usize,
+    pub also: usize,
     // in whole seconds
     pub stamp: u32,
     // how many bytes are cut off at the end
     pub cut: usize,
     // whether what is held stays held
     pub keeps: bool,
-    // of the last entry: its answer, how many bytes were held before it, and whether a byte of table or ring or a mark has changed
-    pub answer: u8,
-    pub before: usize,
-    pub changed: bool,
+    pub last: Last,
 }
 
 pub const LONGEST: usize = 128;
+
+// A place past every entry.
+pub const NOWHERE: usize = 56;
 
 pub fn begun() -> Run {
     Run {
@@ -33,20 +48,41 @@ pub fn begun() -> Run {
         twice: false,
         price: 10_000,
         time: 99_999,
+        minimum: 0,
         cross: b'N',
+        firm: b' ',
+        spoiled: NOWHERE,
+        also: NOWHERE,
         stamp: 34_200,
         cut: 0,
         keeps: false,
-        answer: 0,
-        before: 0,
-        changed: false,
+        last: Last {
+            answer: 0,
+            before: 0,
+            changed: false,
+            intact: false,
+        },
     }
 }
 
 // Whether a letter of a script sets something, and is no entry.
 pub fn sets(letter: u8) -> bool {
     match letter {
-        b'A' | b'B' | b'D' | b'!' | b'=' | b'$' | b't' | b'C' | b'@' | b'<' | b'k' | b'R' => true,
+        b'A'
+        | b'B'
+        | b'D'
+        | b'!'
+        | b'='
+        | b'$'
+        | b't'
+        | b'C'
+        | b'@'
+        | b'<'
+        | b'k'
+        | b'R'
+        | b'm'
+        | b'w'
+        | b'?' => true,
         _ => false,
     }
 }
@@ -63,8 +99,18 @@ pub fn set(before: Run, letter: u8, n: u32) -> Run {
         b't' => {
             run.time = n;
         }
+        b'm' => {
+            run.minimum = n;
+        }
         b'C' => {
             run.cross = b'C';
+        }
+        b'w' => {
+            run.firm = (64 + n % 26) as u8;
+        }
+        b'?' => {
+            run.also = before.spoiled;
+            run.spoiled = n as usize;
         }
         b'@' => {
             run.stamp = n;
@@ -91,12 +137,9 @@ pub fn marked(before: Run, marks: Marks) -> Run {
     run
 }
 
-pub fn answered(before: Run, marks: Marks, answer: u8, changed: bool) -> Run {
-    let was = before.marks;
+pub fn answered(before: Run, marks: Marks, last: Last) -> Run {
     let mut run = before;
     run.marks = marks;
-    run.answer = answer;
-    run.before = was.held;
-    run.changed = changed;
+    run.last = last;
     run
 }

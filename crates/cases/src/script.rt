@@ -1,18 +1,23 @@
 // A script as it is played through the host: words of a letter and a number, each with a space behind it.
 //
 // A B D !   the next entries name this token (! is in no legal one); A before the first
-// =         from here on a replace names its token twice; before, A is replaced by B and any other by A
+// =         from here on a replace names its token twice; before, it brings B
 // C         the next orders are for the closing cross
-// $ t       the next prices and times in force; 10,000 and 99,999 before the first
+// $ t m     the next prices, times in force and minimums; 10,000, 99,999 and 0 before the first
+// w         the next orders are for the firm so numbered; before, the firm is blank
+// ?         the byte at this place of the next entries is spoiled, beside the one at the place named before
 // @         the next stamps, in seconds; 34,200 before the first
 // <         so many bytes are cut off the next entries
 // R         the ring has so many bytes
+// F V       a fresh table with so many firms; one with this threshold
 // T N       a byte of the table is damaged; the next reference is the one past the last
 // k g       what is held stays held; what is held is read and released
 //
 // Every other letter is an entry of that kind with so many shares (E: the day ends). Unless k was said the ring is emptied before it.
 use crate::entries::entry;
 use crate::entries::size;
+use crate::house::open;
+use crate::run::Last;
 use crate::run::Run;
 use crate::run::answered;
 use crate::run::begun;
@@ -21,6 +26,7 @@ use crate::run::set;
 use crate::run::sets;
 use crate::text::part;
 use crate::text::put;
+use answers::Answer;
 use answers::number;
 use host::step::step;
 use outbox::marks::Marks;
@@ -59,6 +65,17 @@ fn copied(table: &[u8], ring: &[u8]) -> [u8; 352] {
     bytes
 }
 
+// What came of an entry, from table and ring before and after it.
+fn last(answer: Answer, was: Marks, marks: Marks, before: [u8; 352], after: [u8; 352]) -> Last {
+    let same = check::same(&before, &after) & (marks.at == was.at) & (marks.held == was.held);
+    Last {
+        answer: number(answer),
+        before: was.held,
+        changed: !same,
+        intact: check::same(part(&before, 64, 144), part(&after, 64, 144)),
+    }
+}
+
 fn offered(table: &mut [u8], ring: &mut [u8], run: Run, entry: &[u8]) -> Run {
     let was = run.marks;
     let before = copied(table, ring);
@@ -66,8 +83,7 @@ fn offered(table: &mut [u8], ring: &mut [u8], run: Run, entry: &[u8]) -> Run {
     let marks = stepped.marks;
     let answer = stepped.answer;
     let after = copied(table, ring);
-    let same = check::same(&before, &after) & (marks.at == was.at) & (marks.held == was.held);
-    answered(run, marks, number(answer), !same)
+    answered(run, marks, last(answer, was, marks, before, after))
 }
 
 fn played(table: &mut [u8], ring: &mut [u8], before: Run, kind: u8, n: u32) -> Run {
@@ -79,16 +95,35 @@ fn played(table: &mut [u8], ring: &mut [u8], before: Run, kind: u8, n: u32) -> R
     offered(table, ring, run, part(&bytes, 0, size(run, kind)))
 }
 
+// What a script does to the table beside its entries.
+fn prepared(table: &mut [u8], letter: u8, n: u32) {
+    match letter {
+        b'T' => {
+            put(table, 0, &[9]);
+        }
+        b'N' => {
+            put(table, 16, &PAST_THE_LAST);
+        }
+        b'F' => {
+            open(table, 1_000_000, n);
+        }
+        b'V' => {
+            open(table, n, 1);
+        }
+        _ => {}
+    }
+}
+
+fn prepares(letter: u8) -> bool {
+    match letter {
+        b' ' | b'T' | b'N' | b'F' | b'V' => true,
+        _ => false,
+    }
+}
+
 fn acted(table: &mut [u8], ring: &mut [u8], run: Run, letter: u8, n: u32) -> Run {
-    if letter == b' ' {
-        return run;
-    }
-    if letter == b'T' {
-        put(table, 0, &[9]);
-        return run;
-    }
-    if letter == b'N' {
-        put(table, 16, &PAST_THE_LAST);
+    if prepares(letter) {
+        prepared(table, letter, n);
         return run;
     }
     if letter == b'g' {

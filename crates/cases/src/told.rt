@@ -6,6 +6,7 @@ use crate::text::number;
 use crate::text::part;
 use crate::text::put;
 use crate::text::put_number;
+use crate::text::trimmed;
 use outbox::marks::Marks;
 use outbox::read::read;
 use outbox::release::release;
@@ -15,8 +16,8 @@ use wire::messages::message_length;
 // A refusal changes nothing, so there is no more to say of it.
 fn refused(run: Run, out: &mut [u8]) -> usize {
     let at = put(out, 0, b"answer ");
-    let end = put_number(out, at, run.answer as u64);
-    if run.changed {
+    let end = put_number(out, at, run.last.answer as u64);
+    if run.last.changed {
         return put(out, end, b", but something changed");
     }
     put(out, end, b", nothing changed")
@@ -47,7 +48,13 @@ fn accepted(sent: &[u8], out: &mut [u8]) -> usize {
     let b = put(out, a, b" at ");
     let c = put_number(out, b, number(sent, 36));
     let d = put(out, c, b" for ");
-    put_number(out, d, number(sent, 40))
+    let e = put_number(out, d, number(sent, 40));
+    firm(sent, out, e)
+}
+
+fn firm(sent: &[u8], out: &mut [u8], from: usize) -> usize {
+    let at = put(out, from, b" by ");
+    put(out, at, trimmed(part(sent, 44, 48)))
 }
 
 fn message(sent: &[u8], out: &mut [u8]) -> usize {
@@ -78,13 +85,44 @@ fn record(table: &[u8], name: u8) -> usize {
     0
 }
 
-fn live(order: &[u8], out: &mut [u8], from: usize) -> usize {
-    let at = put(out, from, b" live ");
-    let unexecuted = wrapping_sub_u64(number(order, 16), number(order, 20));
-    put_number(out, at, wrapping_sub_u64(unexecuted, number(order, 24)))
+// Liable less executed less self-matched is open.
+fn counts(order: &[u8], out: &mut [u8], from: usize) -> usize {
+    let a = put_number(out, from, number(order, 16));
+    let b = put(out, a, b"-");
+    let c = put_number(out, b, number(order, 20));
+    let d = put(out, c, b"-");
+    let e = put_number(out, d, number(order, 24));
+    let f = put(out, e, b"=");
+    exposed(order, out, f)
 }
 
-// What a token means now: how much of it is open, or why nothing is.
+fn exposed(order: &[u8], out: &mut [u8], from: usize) -> usize {
+    let unexecuted = wrapping_sub_u64(number(order, 16), number(order, 20));
+    put_number(out, from, wrapping_sub_u64(unexecuted, number(order, 24)))
+}
+
+fn live(order: &[u8], out: &mut [u8], from: usize) -> usize {
+    let a = put(out, from, b" live ");
+    let b = counts(order, out, a);
+    let c = put(out, b, b" for ");
+    put_number(out, c, number(order, 40))
+}
+
+fn dead(order: &[u8], out: &mut [u8], from: usize) -> usize {
+    let at = put(out, from, b" dead ");
+    counts(order, out, at)
+}
+
+fn stands(order: &[u8], out: &mut [u8], from: usize) -> usize {
+    match letter(order, 0) {
+        b'L' => live(order, out, from),
+        b'D' => dead(order, out, from),
+        b'R' => put(out, from, b" rejected"),
+        _ => put(out, from, b" in no state"),
+    }
+}
+
+// What a token means now: its counts and its time in force, or why it has none.
 fn order(table: &[u8], name: u8, out: &mut [u8], from: usize) -> usize {
     let comma = put(out, from, b", ");
     let at = put(out, comma, &[name]);
@@ -92,12 +130,15 @@ fn order(table: &[u8], name: u8, out: &mut [u8], from: usize) -> usize {
     if place == 0 {
         return put(out, at, b" free");
     }
-    match letter(table, place) {
-        b'L' => live(part(table, place, table.len()), out, at),
-        b'D' => put(out, at, b" dead"),
-        b'R' => put(out, at, b" rejected"),
-        _ => put(out, at, b" in no state"),
+    stands(part(table, place, table.len()), out, at)
+}
+
+// Whether all 80 bytes of the first record, which is A's, are what they were before the entry.
+fn intact(table: &[u8], run: Run, out: &mut [u8], from: usize) -> usize {
+    if run.last.intact & (record(table, b'A') == 64) {
+        return put(out, from, b" intact");
     }
+    from
 }
 
 // The type of the one message that was held before and still is; a question mark where those bytes are something else.
@@ -114,15 +155,16 @@ fn behind(older: &[u8], out: &mut [u8], from: usize) -> usize {
 }
 
 pub fn told(table: &[u8], ring: &[u8], run: Run, out: &mut [u8]) -> usize {
-    if run.answer != 0 {
+    if run.last.answer != 0 {
         return refused(run, out);
     }
     let mut sent = [0u8; LONGEST];
     let marks = run.marks;
     let end = held_bytes(ring, marks, &mut sent);
-    let before = run.before;
+    let before = run.last.before;
     let a = message(part(&sent, before, end), out);
     let b = order(table, b'A', out, a);
-    let c = order(table, b'B', out, b);
-    behind(part(&sent, 0, before), out, c)
+    let c = intact(table, run, out, b);
+    let d = order(table, b'B', out, c);
+    behind(part(&sent, 0, before), out, d)
 }

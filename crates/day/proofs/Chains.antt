@@ -1,13 +1,6 @@
 -- No chain ever executes above 999,999 shares: from a fresh table on, whatever is played, what the messages tell as executed along a chain of
 -- replacements is at most what the chain's last order has executed. Assumes nothing.
-use mathlib.Core.Path.{_≡_, refl, sym, ap, _∙_, subst}
-use mathlib.Core.Bool.{Bool, true, false, false≢true}
-use mathlib.Core.Logic.{_≢_}
-use mathlib.Core.List.{List, [], _∷_, _++_}
-use Prim.Native.Nat.{ℕ, zero, suc, _+_, _^_, _≤_, _<_}
-use native.Mathlib.Decide.{decLt}
-use native.Mathlib.Omega.{arith}
-use lib.ListN.{length}
+use Rattle.octets.proofs.Proving.{Bool, List, [], _++_, _+_, _<_, _^_, _∙_, _∷_, _≡_, _≤_, ap, arith, decLt, false, false≢true, inl, length, refl, subst, suc, sym, true, zero, ℕ}
 use Rattle.octets.specs.Choice.{pick, allBelow}
 use Rattle.octets.specs.Bytes.{same, zeros, numberOf, numberFrom}
 use Rattle.octets.proofs.Below.{same-true, same-self}
@@ -15,12 +8,12 @@ use Rattle.answers.specs.Answer.{isDone}
 use Rattle.wire.specs.Letters.{live, dead}
 use Rattle.wire.specs.Limits.{tokenSize}
 use Rattle.wire.specs.Text.{tokenByte, capital, small, digit}
-use Rattle.table.specs.Limits.{mostShares}
-use Rattle.table.specs.Counts.{newCounts}
-use Rattle.table.specs.Order.{isUsed, noOrder, rejectedOrder, orderOf}
-use Rattle.table.specs.Table.{header, orderAt, placeOf, orderNamed, sound}
-use Rattle.table.specs.declared.order.Order.{Order}
-use Rattle.table.proofs.Judged.{legalToken as judgedToken}
+use Rattle.orders.specs.Limits.{mostShares}
+use Rattle.orders.specs.Counts.{newCounts}
+use Rattle.orders.specs.Order.{isUsed, noOrder, rejectedOrder, orderOf}
+use Rattle.table.specs.Table.{header, usedIn, orderAt, placeOf, orderNamed, sound}
+use Rattle.orders.specs.declared.order.Order.{Order}
+use Rattle.wire.proofs.NoneBad.{legalToken as judgedToken}
 use Rattle.table.proofs.Soundness.{Sound}
 use Rattle.table.proofs.Finding.{found}
 use Rattle.tape.specs.Entries.{stampOf, tokenOf}
@@ -28,18 +21,18 @@ use Rattle.rules.specs.declared.plan.Decision.{Decision}
 use Rattle.rules.specs.declared.plan.Notice.{Notice}
 use Rattle.rules.specs.declared.plan.Notice.the-variants.{Accepted, AiqCancelled, CancelPending, CancelReject, Canceled, Executed, Modified, PriorityUpdate, Rejected, Replaced, Silent, SystemEvent}
 use Rattle.rules.specs.declared.plan.Plan.{Plan}
-use Rattle.rules.specs.Sane.{Changed, Born, toldExecuted, ofNone, subject, Shape, nobody, changes, accepts, rejects, replaces}
-use Rattle.rules.specs.Sent.{message}
-use Rattle.rules.proofs.Standing.{live-state, executed-most}
-use Rattle.host.specs.Step.{oneIf, comesTo, tableAfter}
-use Rattle.host.proofs.Given.{named-is, named-used, shaped-none}
-use Rattle.host.proofs.Sounds.{S, P, K, p, place, named, one, none-unused}
-use Rattle.host.proofs.Records.{Face, face, faceAt, left, left-used, changed-face, unchanged-face, unchanged-faces, added-face, earlier-face}
-use Rattle.day.specs.Day.{telling, unlimited}
+use Rattle.laws.proofs.Shapes.{Changed, Born, toldExecuted, ofNone, subject, Shape, nobody, changes, accepts, rejects, replaces}
+use Rattle.notices.specs.Notices.{message}
+use Rattle.laws.proofs.Standing.{live-state, executed-most, standing-used}
+use Rattle.host.specs.Step.{oneIf, comesTo}
+use Rattle.laws.proofs.Given.{from-is, live-there, shaped-none, none-unused}
+use Rattle.laws.proofs.Sounds.{S, P, K, p, place, o as namedOrder, one}
+use Rattle.laws.proofs.Records.{Face, face, faceAt, left, left-used, changed-face, unchanged-face, unchanged-faces, added-face, earlier-face}
+use Rattle.day.specs.Day.{telling, unlimited, tableAfter}
 use Rattle.day.specs.Chain.{executedIn, chain, executedAlong}
 use Rattle.day.proofs.Plays.{plays}
 use Rattle.day.proofs.Ledger.{Carries, fromNothing, fromBefore, Balanced, still, moved, grown}
-use Rattle.day.proofs.Tokens.{named-none, has-used, used-has, standing-used, tokens-stay}
+use Rattle.day.proofs.Tokens.{named-is, named-none, has-used, used-has, tokens-stay}
 use Rattle.day.proofs.Telling.{tells, executed-append, executed-telling}
 
 -- the ledger of a table, of the messages told so far
@@ -67,7 +60,7 @@ module _ (t s : List ℕ) (ok : sound t ≡ true) (done : isDone (comesTo t s .a
   plan = p t s ok done
 
   abbrev o : Order
-  o = named t s ok done
+  o = namedOrder t s ok done
 
   abbrev at : ℕ
   at = place t s ok done
@@ -111,13 +104,13 @@ module _ (t s : List ℕ) (ok : sound t ≡ true) (done : isDone (comesTo t s .a
 
   module _ (c : Changed o (plan .notice) (plan .changed)) where
     there : at < used
-    there = named-used t (tokenOf s) (c .alive)
+    there = omega (arith, live-there t at (c .alive), S t s ok done .used)
 
     is : face o ≡ faceAt t at
-    is = ap face (named-is t (tokenOf s) there)
+    is = ap face (from-is t at (live-there t at (c .alive)))
 
     becomes : faceAt mid at ≡ face (plan .changed)
-    becomes = changed-face t s ok done (standing-used (c .standing))
+    becomes = changed-face t s ok done (standing-used _ (c .standing))
 
     all-told : (token : List ℕ) → later token ≡ told token + pick (same (plan .changed .token) token) (toldExecuted (plan .notice)) 0
     all-told = told-later (c .shaped .token) (omega (arith, c .executed, executed-most (plan .changed) (c .standing)))
@@ -168,7 +161,7 @@ module _ (t s : List ℕ) (ok : sound t ≡ true) (done : isDone (comesTo t s .a
           ∙ e
           ∙ ap (λ (x : Face). x .token) (added-face t s ok done is-used)
           ∙ has in
-          false≢true (sym free ∙ has-used t token (S t s ok done) i l here)
+          false≢true (sym free ∙ has-used t token (S t s ok done) i (omega (arith, l, S t s ok done .used)) here)
 
       one-more : Carries used (faceAt mid) 0 (face (plan .added)) → plan .added .shares .executed .0 ≤ mostShares → Balanced used (faceAt mid) later → Balanced (header end .used) (faceAt end) later
       one-more carry few b =
@@ -179,16 +172,15 @@ module _ (t s : List ℕ) (ok : sound t ≡ true) (done : isDone (comesTo t s .a
 
   -- ---- both, by the plan's shape
 
-  born-used : {token before : List ℕ} {e m : ℕ} (new : Order) → Born token e m before new → isUsed new ≡ true
-  unfolding isUsed
-  born-used new b = rw (b .state)
+  born-used : {token before : List ℕ} {executed : ℕ} (new : Order) → Born token executed before new → isUsed new ≡ true
+  born-used new b = standing-used new (inl (b .alive))
 
   by-shape : Shape o (orderNamed t (K t s ok done .0)) (K t s ok done .0) plan → Balanced (header end .used) (faceAt end) later
   unfolding rejectedOrder newCounts noOrder orderOf isUsed
   by-shape (nobody c a of) = no-more a (silent c (nobody-tells (plan .notice) of))
   by-shape (changes c a of) = no-more a (speaking c)
   by-shape (accepts free c born e) =
-      one-more (born-used (plan .added) born) free (born .token) (fromNothing (born .previous) (born .executed)) (omega (arith, born .executed))
+      one-more (born-used (plan .added) born) free (born .token) (fromNothing (born .previous) (born .carried)) (omega (arith, born .carried))
       (silent c (ap toldExecuted e))
   by-shape (rejects free c a reason e) =
       one-more (ap isUsed a) free (ap (λ (q : Order). q .token) a)
@@ -198,12 +190,11 @@ module _ (t s : List ℕ) (ok : sound t ≡ true) (done : isDone (comesTo t s .a
   by-shape (replaces free c is-dead born e) =
       let c′ : Changed o (plan .notice) (plan .changed) = rw e c in
       let stored = becomes c′ in
-      let shares = born .shares in
       one-more (born-used (plan .added) born) free (born .token)
       (fromBefore at (there c′) (ap (λ (x : Face). x .token) stored ∙ c .token ∙ sym (born .previous))
       (λ alive. let z : _≡_ {A = ℕ} dead live = sym is-dead ∙ sym (ap (λ (x : Face). x .state) stored) ∙ alive in omega (arith, z))
-      (omega (arith, born .executed, c .executed, ap (λ (x : Face). x .executed) stored)))
-      (omega arith)
+      (omega (arith, born .carried, c .executed, ap (λ (x : Face). x .executed) stored)))
+      (executed-most (plan .added) (inl (born .alive)))
       (speaking c′)
 
   -- the table and the messages as a play has them
@@ -243,17 +234,21 @@ module _ (t : List ℕ) (ok : Sound t) (ms : List (List ℕ)) (books : Books t m
   -- zeros are no token
   before-first : orderNamed t (zeros tokenSize) .shares .executed .0 ≡ 0
   unfolding orderAt
-  before-first = elim (decLt (placeOf t (zeros tokenSize)) (header t .used)) [
+  before-first = elim (decLt (placeOf t (zeros tokenSize)) (usedIn t)) [
     | yes l ↦
-        absurd (false≢true (sym no-token ∙ ap judgedToken (sym (found t (zeros tokenSize) l .has)) ∙ ok .records (placeOf t (zeros tokenSize)) l .token))
+        absurd
+        (false≢true
+        (sym no-token
+        ∙ ap judgedToken (sym (found t (zeros tokenSize) l .has))
+        ∙ ok .records (placeOf t (zeros tokenSize)) (omega (arith, l, ok .used)) .token))
     | no l ↦ ap (λ (q : Order). q .shares .executed .0) (named-none t (zeros tokenSize) (omega arith)) ∙ none-executed
   ]
 
   -- a token that a record has names that record
   names : (j : ℕ) → j < header t .used → (token : List ℕ) → orderAt t j .token ≡ token → orderNamed t token ≡ orderAt t j
   names j l token has =
-      let q = used-has t token (has-used t token ok j l has) in
-      named-is t token q ∙ ap (orderAt t) (books .apart (placeOf t token) j q l (found t token q .has ∙ sym has))
+      let q = used-has t token (has-used t token ok j (omega (arith, l, ok .used)) has) in
+      named-is t token q ∙ ap (orderAt t) (books .apart (placeOf t token) j (omega (arith, q, ok .used)) l (found t token q .has ∙ sym has))
 
   along : (n : ℕ) (token : List ℕ) → executedAlong (chain t n token) ms ≤ orderNamed t token .shares .executed .0
   unfolding chain executedAlong
@@ -277,11 +272,11 @@ module _ (t : List ℕ) (ok : Sound t) (ms : List (List ℕ)) (books : Books t m
           → executedAlong (pick b (token ∷ chain t n (orderNamed t token .details .previous)) []) ms ≤ orderNamed t token .shares .executed .0
       by true u less =
           let l = used-has t token u in
-          rw (named-is t token l) (back (books .carries at l) (found t token l .has) (less (orderAt t at .details .previous)))
+          rw (named-is t token l) (back (books .carries at (omega (arith, l, ok .used))) (found t token l .has) (less (orderAt t at .details .previous)))
       by false u less = omega arith
 
   pub never-above : (n : ℕ) (token : List ℕ) → executedAlong (chain t n token) ms ≤ mostShares
-  never-above n token = elim (decLt (placeOf t token) (header t .used)) [
-    | yes l ↦ omega (arith, along n token, ap (λ (q : Order). q .shares .executed .0) (named-is t token l), books .most (placeOf t token) l)
+  never-above n token = elim (decLt (placeOf t token) (usedIn t)) [
+    | yes l ↦ omega (arith, along n token, ap (λ (q : Order). q .shares .executed .0) (named-is t token l), books .most (placeOf t token) (omega (arith, l, ok .used)))
     | no l ↦ omega (arith, along n token, ap (λ (q : Order). q .shares .executed .0) (named-none t token (omega arith)), none-executed)
   ]

@@ -1,33 +1,28 @@
 -- Nothing is lost and nothing comes twice. At every moment of every schedule the bytes released, the bytes held and the messages still to
 -- come are the messages of unlimited room; the answers but for 'blocked' and the table agree too. It is true because what an entry comes to
 -- is decided without a look at the ring, and because a message that has no room leaves everything as it was. Assumes nothing.
-use mathlib.Core.Path.{_≡_, refl, sym, ap, ap₂, _∙_, subst}
-use mathlib.Core.Bool.{Bool, true, false, not}
-use mathlib.Core.List.{List, [], _∷_, _++_, append-assoc, append-nil}
-use Prim.Native.Nat.{ℕ, _≤_}
-use lib.ListN.{length, take, drop, take-append-drop}
-use native.Mathlib.Omega.{arith}
-use borrow.Author.Tests.{ltb-false}
-use Rattle.octets.specs.Choice.{_⇒_⨾_}
+use Rattle.octets.proofs.Proving.{Bool, List, [], _++_, _∙_, _∷_, _≡_, _≤_, ap, append-assoc, append-nil, ap₂, arith, drop, false, length, ltb-false, refl, subst, sym, take, take-append-drop, true, ℕ}
 use Rattle.octets.specs.Bytes.{joined}
 use Rattle.answers.specs.Answer.{isDone}
 use Rattle.answers.proofs.Laws.{is-done, not-done}
-use Rattle.table.specs.Table.{sound}
 use Rattle.tape.specs.Entries.{stampOf}
-use Rattle.rules.specs.Sent.{message}
+use Rattle.notices.specs.Notices.{message}
 use Rattle.outbox.specs.Outbox.{ringGood, freeBytes, held, marksWith, readRun, releaseAnswer, releaseMarks}
 use Rattle.outbox.proofs.With.{fits-free, length-with}
 use Rattle.outbox.proofs.Right.{good-with}
 use Rattle.outbox.proofs.Held.{held-with, length-held}
 use Rattle.outbox.proofs.Board.{refused-release-changes-nothing, release-keeps-good, release-drops, read-is-prefix}
-use Rattle.host.proofs.Sounds.{keeps}
-use Rattle.day.proofs.Unblocked.{unblocked}
+use Rattle.laws.proofs.Sounds.{keeps}
+use Rattle.laws.proofs.Comes.{unblocked}
 use Rattle.answers.specs.declared.Answer.{Answer}
-use Rattle.answers.specs.declared.Answer.the-variants.{Blocked, Done}
 use Rattle.rules.specs.declared.plan.Decision.{Decision}
 use Rattle.rules.specs.declared.plan.Plan.{Plan}
-use Rattle.host.specs.Step.{World, Outcome, comesTo, noRoom, settle, offer, step, tableAfter, worldAfter, unchanged}
-use Rattle.day.specs.Day.{Played, telling, playOn, unlimited, Action, offerNext, look, release, Ran, isBlocked, withMarks, givenUp, offered, run}
+use Rattle.host.specs.Step.{World, Outcome, namedPlace, comesTo, noRoom, step, worldAfter}
+use Rattle.laws.proofs.Steps.{stepBy, step-by, comes, full}
+use Rattle.table.proofs.Soundness.{of-sound}
+use Rattle.day.specs.Demand.{bytes, Ready, Streams, Begins}
+use Rattle.day.specs.Day.{Played, telling, playOn, unlimited, Action, offerNext, look, release, Ran, withMarks, givenUp, offered, run, tableAfter}
+use Rattle.laws.specs.Blocked.{isBlocked}
 
 -- ---- small things
 
@@ -36,19 +31,9 @@ unfolding joined
 joined-telling [] ms = refl
 joined-telling (b ∷ bs) ms = refl
 
--- the held bytes of a world
-abbrev pub bytes : World → List ℕ
-bytes w = held (w .ring) (w .marks)
-
--- what a step asks of the world that it is called on
-pub record Ready (w : World) : Type 0 where
-  pub table : sound (w .table) ≡ true
-  pub ring : ringGood (length (w .ring)) (w .marks) ≡ true
-
--- once table and ring are right a step is an offer
-step-is-offer : (w : World) (s : List ℕ) → Ready w → step w s ≡ offer w s
-unfolding step
-step-is-offer w s ok = simp (ok .table, ok .ring)
+-- over a sound table and a right ring only two questions are left
+pub as-judged : (w : World) (s : List ℕ) → Ready w → step w s ≡ stepBy w s (comes w s) true true (isDone (comes w s .answer)) (full w s)
+as-judged w s ok = step-by w s ∙ ap₂ (λ (t r : Bool). stepBy w s (comes w s) t r (isDone (comes w s .answer)) (full w s)) (ok .table) (ok .ring)
 
 nothing : (l : List ℕ) → length l ≡ 0 → l ≡ []
 nothing [] h = refl
@@ -60,21 +45,21 @@ nothing-held w ok none = nothing (bytes w) (length-held (w .ring) (w .marks) (ok
 -- ---- one message more
 
 -- a done entry's message goes behind the held bytes, and the ring stays right
-module _ (w : World) (s : List ℕ) (p : Plan) (ok : ringGood (length (w .ring)) (w .marks) ≡ true) (room : noRoom w s p ≡ false) where
-  fits : length (message (stampOf s) p) ≤ freeBytes (length (w .ring)) (w .marks)
+module _ (w : World) (place stamp : ℕ) (p : Plan) (ok : ringGood (length (w .ring)) (w .marks) ≡ true) (room : noRoom w stamp p ≡ false) where
+  fits : length (message stamp p) ≤ freeBytes (length (w .ring)) (w .marks)
   unfolding noRoom
   fits = ltb-false _ _ room
 
-  pub bytes-after : bytes (worldAfter w s p) ≡ bytes w ++ message (stampOf s) p
+  pub bytes-after : bytes (worldAfter w place stamp p) ≡ bytes w ++ message stamp p
   unfolding worldAfter
-  bytes-after = held-with (w .ring) (w .marks) ok (message (stampOf s) p) fits
+  bytes-after = held-with (w .ring) (w .marks) ok (message stamp p) fits
 
-  pub ring-after : ringGood (length (worldAfter w s p .ring)) (worldAfter w s p .marks) ≡ true
+  pub ring-after : ringGood (length (worldAfter w place stamp p .ring)) (worldAfter w place stamp p .marks) ≡ true
   unfolding worldAfter
   ring-after =
-      ap (λ (n : ℕ). ringGood n (marksWith (w .marks) (length (message (stampOf s) p))))
-      (length-with (w .ring) (w .marks) (message (stampOf s) p) (fits-free (w .ring) (w .marks) (message (stampOf s) p) ok fits))
-      ∙ good-with (length (w .ring)) (w .marks) ok (length (message (stampOf s) p)) fits
+      ap (λ (n : ℕ). ringGood n (marksWith (w .marks) (length (message stamp p))))
+      (length-with (w .ring) (w .marks) (message stamp p) (fits-free (w .ring) (w .marks) (message stamp p) ok fits))
+      ∙ good-with (length (w .ring)) (w .marks) ok (length (message stamp p)) fits
 
 -- ---- the invariant
 
@@ -89,27 +74,23 @@ pub record Kept (b : List ℕ) (p : Played) (r : Ran) : Type 0 where
 abbrev Rest : (World → List (List ℕ) → Ran) → Type 0
 Rest go = (w : World) (ss : List (List ℕ)) → Ready w → Kept (bytes w) (unlimited (w .table) ss) (go w ss)
 
--- a settled decision, by whether it is done and whether there is room
-abbrev settled : World → List ℕ → Decision → Bool → Bool → Outcome
-settled w s d done full =
-    not done ⇒ unchanged w (d .answer)
-    ⨾ full ⇒ unchanged w Blocked
-    ⨾ record { answer = Done; world = worldAfter w s (d .plan) }
-
 module _ (w : World) (s : List ℕ) (ss : List (List ℕ)) (go : World → List (List ℕ) → Ran) (ok : Ready w) (rest : Rest go) where
   d : Decision
   d = comesTo (w .table) s
+
+  abbrev outcome : Bool → Bool → Outcome
+  outcome done full = stepBy w s (comesTo (w .table) s) true true done full
 
   play-more : isDone (d .answer) ≡ true → unlimited (w .table) (s ∷ ss) ≡ playOn (w .table) s d true (λ t. unlimited t ss)
   unfolding unlimited d
   play-more e = ap (λ (b : Bool). playOn (w .table) s (comesTo (w .table) s) b (λ t. unlimited t ss)) e
 
-  by : (done full : Bool) → isDone (d .answer) ≡ done → noRoom w s (d .plan) ≡ full
-      → Kept (bytes w) (playOn (w .table) s d done (λ t. unlimited t ss)) (offered s ss (settled w s d done full) (isBlocked (settled w s d done full .answer)) go)
-  unfolding d isBlocked worldAfter
+  by : (done full : Bool) → isDone (d .answer) ≡ done → noRoom w (stampOf s) (d .plan) ≡ full
+      → Kept (bytes w) (playOn (w .table) s d done (λ t. unlimited t ss)) (offered s ss (outcome done full) (isBlocked (outcome done full .answer)) go)
+  unfolding d worldAfter
   by false full e f =
       let k = rest w ss ok in
-      rw (unblocked (w .table) s)
+      rw (unblocked (w .table) s (of-sound (w .table) (ok .table)))
       (record {
         ready = k .ready;
         answers = ap (λ (l : List Answer). d .answer ∷ l) (k .answers);
@@ -121,26 +102,25 @@ module _ (w : World) (s : List ℕ) (ss : List (List ℕ)) (go : World → List 
   by true false e f =
       let p = d .plan in
       let m = message (stampOf s) p in
-      let after : Ready (worldAfter w s p) = record {
+      let after : World = worldAfter w (namedPlace (w .table) s) (stampOf s) p in
+      let k = rest after ss record {
         table = keeps (w .table) s (ok .table) e;
-        ring = ring-after w s p (ok .ring) f;
+        ring = ring-after w (namedPlace (w .table) s) (stampOf s) p (ok .ring) f;
       } in
-      let k = rest (worldAfter w s p) ss after in
       let later = unlimited (tableAfter (w .table) s p) ss .messages in
       record {
         ready = k .ready;
         answers = ap₂ _∷_ (sym (is-done (d .answer) e)) (k .answers);
         table = k .table;
         messages = k .messages
-            ∙ ap (λ (b : List ℕ). b ++ joined later) (bytes-after w s p (ok .ring) f)
+            ∙ ap (λ (b : List ℕ). b ++ joined later) (bytes-after w (namedPlace (w .table) s) (stampOf s) p (ok .ring) f)
             ∙ append-assoc (bytes w) m (joined later)
             ∙ ap (λ (l : List ℕ). bytes w ++ l) (sym (joined-telling m later));
       }
 
   pub offered-keeps : Kept (bytes w) (unlimited (w .table) (s ∷ ss)) (offered s ss (step w s) (isBlocked (step w s .answer)) go)
-  unfolding unlimited offer settle d
-  offered-keeps =
-      rw (step-is-offer w s ok) (by (isDone (d .answer)) (noRoom w s (d .plan)) refl refl)
+  unfolding unlimited d
+  offered-keeps = rw (as-judged w s ok) (by (isDone (d .answer)) (noRoom w (stampOf s) (d .plan)) refl refl)
 
 -- ---- a release between
 
@@ -191,15 +171,6 @@ kept (offerNext ∷ todo) w (s ∷ ss) ok = offered-keeps w s ss (λ (w′ : Wor
 
 -- ---- demand 3, for a schedule that gets through the list
 
--- what a schedule that got through the entries comes to
-pub record Streams (p : Played) (r : Ran) : Type 0 where
-  -- released bytes followed by held bytes are the messages that unlimited room would give
-  pub messages : r .released ++ bytes (r .world) ≡ joined (p .messages)
-  -- the other answers agree, in order
-  pub answers : r .answers ≡ p .answers
-  -- and so does the final table
-  pub table : r .world .table ≡ p .table
-
 pub streams : (w : World) (ss : List (List ℕ)) (todo : List Action) → Ready w → w .marks .held ≡ 0 → run w ss todo .left ≡ []
     → Streams (unlimited (w .table) ss) (run w ss todo)
 unfolding unlimited joined
@@ -220,19 +191,20 @@ streams w ss todo ok none through =
 
 -- at any moment, what is read next is the next part of that stream: released bytes and then the run are its beginning
 pub reads-on : (w : World) (ss : List (List ℕ)) (todo : List Action) → Ready w → w .marks .held ≡ 0
-    → (rest : List ℕ)
-    × (run w ss todo .released ++ (readRun (run w ss todo .world .ring) (run w ss todo .world .marks) ++ rest) ≡ joined (unlimited (w .table) ss .messages))
+    → Begins (run w ss todo .released ++ readRun (run w ss todo .world .ring) (run w ss todo .world .marks)) (joined (unlimited (w .table) ss .messages))
 reads-on w ss todo ok none =
     let r = run w ss todo in
     let k = kept todo w ss ok in
     let run′ = readRun (r .world .ring) (r .world .marks) in
+    let more = drop (length run′) (bytes (r .world)) in
     let later = joined (unlimited (r .world .table) (r .left) .messages) in
-    let front : run′ ++ drop (length run′) (bytes (r .world)) ≡ bytes (r .world) =
-    ap (λ (l : List ℕ). l ++ drop (length run′) (bytes (r .world))) (sym (read-is-prefix (r .world .ring) (r .world .marks) (k .ready .ring)))
-    ∙ take-append-drop (length run′) (bytes (r .world)) in (
-      drop (length run′) (bytes (r .world)) ++ later,
-      ap (λ (l : List ℕ). r .released ++ l)
-          (sym (append-assoc run′ (drop (length run′) (bytes (r .world))) later) ∙ ap (λ (l : List ℕ). l ++ later) front)
+    let front : run′ ++ more ≡ bytes (r .world) =
+    ap (λ (l : List ℕ). l ++ more) (sym (read-is-prefix (r .world .ring) (r .world .marks) (k .ready .ring)))
+    ∙ take-append-drop (length run′) (bytes (r .world)) in
+    record {
+      rest = more ++ later;
+      is = append-assoc (r .released) run′ (more ++ later)
+          ∙ ap (λ (l : List ℕ). r .released ++ l) (sym (append-assoc run′ more later) ∙ ap (λ (l : List ℕ). l ++ later) front)
           ∙ k .messages
-          ∙ ap (λ (l : List ℕ). l ++ joined (unlimited (w .table) ss .messages)) (nothing-held w ok none),
-    )
+          ∙ ap (λ (l : List ℕ). l ++ joined (unlimited (w .table) ss .messages)) (nothing-held w ok none);
+    }

@@ -1,28 +1,28 @@
--- Demand 3, from the fresh call on: for every fresh table, every outbox that holds nothing, every list of entries and every schedule that gets
--- through it. Assumes nothing.
-use mathlib.Core.Path.{_≡_}
-use mathlib.Core.Bool.{true, false}
-use mathlib.Core.List.{List, [], _++_}
-use Prim.Native.Nat.{ℕ, _≤_}
-use lib.ListN.{length}
+-- Demand 3, from the fresh call on: for every fresh table, every outbox that holds nothing, every list of entries and every schedule. Assumes
+-- nothing.
+use Rattle.octets.proofs.Proving.{List, [], _++_, _≡_, _≤_, false, length, true, ℕ}
+use Rattle.octets.specs.Bytes.{joined}
+use Rattle.answers.specs.declared.Answer.the-variants.{Done}
+use Rattle.header.specs.Whole.{WholeSettings}
+use Rattle.header.specs.declared.settings.Settings.{Settings}
+use Rattle.orders.specs.Limits.{mostShares}
 use Rattle.table.specs.Fresh.{freshAnswer, freshTable}
-use Rattle.table.specs.Limits.{mostShares}
 use Rattle.table.proofs.Freshness.{fresh-sound, fresh-unused}
 use Rattle.table.proofs.Soundness.{of-sound}
-use Rattle.outbox.specs.Outbox.{ringGood}
-use Rattle.answers.specs.declared.Answer.the-variants.{Done}
+use Rattle.outbox.specs.Outbox.{ringGood, readRun}
 use Rattle.outbox.specs.declared.marks.Marks.{Marks}
-use Rattle.table.specs.declared.settings.Settings.{Settings}
 use Rattle.host.specs.Step.{World, world, step}
-use Rattle.day.specs.Day.{Action, unlimited, isBlocked, run, patient, messagesIn}
+use Rattle.laws.specs.Blocked.{isBlocked}
+use Rattle.day.specs.Day.{Action, unlimited, run, patient}
+use Rattle.day.specs.Demand.{bytes, Ready, Streams, Begins, messagesIn, WholeMessages}
 use Rattle.day.specs.Chain.{chain, executedAlong}
-use Rattle.day.proofs.Day.{Ready, bytes, Streams, streams}
-use Rattle.day.proofs.Stream.{WholeMessages, whole-messages}
+use Rattle.day.proofs.Day.{kept, streams, reads-on}
+use Rattle.day.proofs.Stream.{whole-messages}
 use Rattle.day.proofs.Chains.{opened-books, books-kept, never-above}
 use Rattle.day.proofs.Plays.{play-sound}
 use Rattle.day.proofs.Progress.{never-blocked, patient-through}
 
-module _ (t : List ℕ) (settings : Settings) (typed : length (settings .firms) ≡ 32) (taken : freshAnswer t settings ≡ Done)
+module _ (t : List ℕ) (settings : Settings) (typed : WholeSettings settings) (taken : freshAnswer t settings ≡ Done)
     (ring : List ℕ) (m : Marks) (right : ringGood (length ring) m ≡ true) (empty : m .held ≡ 0)
   where
     abbrev pub start : World
@@ -49,11 +49,18 @@ module _ (t : List ℕ) (settings : Settings) (typed : length (settings .firms) 
         let good = ready .table in
         rw (whole-day ss todo through .table, all-whole ss todo through .cut)
         (never-above (unlimited fresh ss .table) (of-sound _ (play-sound ss fresh good)) (unlimited fresh ss .messages)
-        (books-kept ss fresh [] good (opened-books fresh (fresh-unused t settings taken))) n token)
+        (books-kept ss fresh [] good (opened-books fresh (fresh-unused t settings typed taken))) n token)
 
-    -- an entry offered to the empty outbox is not blocked
-    pub first-taken : (s : List ℕ) → isBlocked (step start s .answer) ≡ false
-    first-taken s = never-blocked start s ready empty
+    -- an entry offered to an empty outbox is never blocked: at every moment that any schedule reaches where nothing is held, whatever is offered
+    pub never-blocked-all-day : (ss : List (List ℕ)) (todo : List Action) → run start ss todo .world .marks .held ≡ 0
+        → (s : List ℕ) → isBlocked (step (run start ss todo .world) s .answer) ≡ false
+    never-blocked-all-day ss todo none s = never-blocked (run start ss todo .world) s (kept todo start ss ready .ready) none
+
+    -- at every moment what was released, and then what a read shows, are the beginning of the stream of unlimited room
+    pub reads-on-all-day : (ss : List (List ℕ)) (todo : List Action)
+        → Begins (run start ss todo .released ++ readRun (run start ss todo .world .ring) (run start ss todo .world .marks))
+        (joined (unlimited (freshTable t settings) ss .messages))
+    reads-on-all-day ss todo = reads-on start ss todo ready empty
 
     -- and some schedule gets through
     pub some-schedule : (ss : List (List ℕ)) → run start ss (patient start ss) .left ≡ []

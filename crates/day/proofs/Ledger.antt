@@ -1,16 +1,11 @@
 -- A ledger balances when every order has executed what the messages told under its own token and what the order before it had executed. It
 -- is kept by each thing that an entry can do to the records: nothing, a change of a live order, a new one. Assumes nothing.
-use mathlib.Core.Path.{_≡_, sym, ap, _∙_, subst}
-use mathlib.Core.Logic.{_≢_}
-use mathlib.Core.List.{List}
-use Prim.Native.Nat.{ℕ, _+_, _≤_, _<_}
-use native.Mathlib.Decide.{ℕ-discrete}
-use native.Mathlib.Omega.{arith}
+use Rattle.octets.proofs.Proving.{List, _+_, _<_, _∙_, _≡_, _≢_, _≤_, ap, arith, subst, sym, ℕ, ℕ-discrete}
 use Rattle.octets.specs.Bytes.{zeros}
 use Rattle.wire.specs.Letters.{live}
 use Rattle.wire.specs.Limits.{tokenSize}
-use Rattle.table.specs.Limits.{mostShares}
-use Rattle.host.proofs.Records.{Face}
+use Rattle.orders.specs.Limits.{mostShares}
+use Rattle.laws.proofs.Records.{Face}
 
 -- x has executed what was told, and what the order before it had: there is none, or it is among the n and no longer live
 pub data Carries (n : ℕ) (f : ℕ → Face) (told : ℕ) (x : Face) : Type 0 where

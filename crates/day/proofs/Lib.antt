@@ -1,4 +1,3 @@
-pub mod Unblocked
 pub mod Plays
 pub mod Ledger
 pub mod Tokens

@@ -1,15 +1,12 @@
 -- What every done entry keeps, a whole play keeps: the one induction over the entries of a tape. Assumes nothing.
-use mathlib.Core.Path.{_≡_, refl, sym, ap, subst}
-use mathlib.Core.Bool.{Bool, true, false}
-use mathlib.Core.List.{List, [], _∷_, _++_, append-assoc, append-nil}
-use Prim.Native.Nat.{ℕ}
+use Rattle.octets.proofs.Proving.{Bool, List, [], _++_, _∷_, _≡_, ap, append-assoc, append-nil, false, refl, subst, sym, true, ℕ}
 use Rattle.answers.specs.Answer.{isDone}
 use Rattle.table.specs.Table.{sound}
 use Rattle.tape.specs.Entries.{stampOf}
-use Rattle.rules.specs.Sent.{message}
-use Rattle.host.specs.Step.{comesTo, tableAfter}
-use Rattle.host.proofs.Sounds.{keeps}
-use Rattle.day.specs.Day.{telling, playOn, unlimited}
+use Rattle.notices.specs.Notices.{message}
+use Rattle.host.specs.Step.{comesTo}
+use Rattle.laws.proofs.Sounds.{keeps}
+use Rattle.day.specs.Day.{telling, playOn, unlimited, tableAfter}
 
 -- a message, or none, between the ones before and the ones behind
 in-between : (m : List ℕ) (past ms : List (List ℕ)) → (past ++ telling m []) ++ ms ≡ past ++ telling m ms

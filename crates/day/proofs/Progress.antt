@@ -1,36 +1,31 @@
 -- An entry offered to an empty outbox is never blocked, and so a driver that empties the outbox after each block gets through any list.
 -- Assumes nothing.
-use mathlib.Core.Path.{_≡_, refl, sym, ap, ap₂, _∙_, subst}
-use mathlib.Core.Bool.{Bool, true, false, false≢true}
-use mathlib.Core.List.{List, [], _∷_}
-use Prim.Native.Nat.{ℕ, _-_, _≤_, _<_}
-use native.Mathlib.Nat.{le-refl, sub-self}
-use native.Mathlib.Omega.{arith}
-use borrow.Author.Tests.{le-ltb, lt-ltb, ltb-true, eqb-true}
-use lib.Dec.{eqb}
-use lib.ListN.{length}
+use Rattle.octets.proofs.Proving.{Bool, List, [], _-_, _<_, _∙_, _∷_, _≡_, _≤_, ap, ap₂, arith, eqb, eqb-true, false, false≢true, le-ltb, le-refl, length, lt-ltb, ltb-true, refl, sub-self, subst, sym, true, ℕ}
 use Rattle.octets.specs.Choice.{pick}
 use Rattle.answers.specs.Answer.{answerNumber, isDone}
 use Rattle.tape.specs.Entries.{stampOf}
-use Rattle.rules.specs.Sent.{message}
+use Rattle.notices.specs.Notices.{message}
 use Rattle.outbox.specs.Outbox.{freeBytes, marksWithout}
 use Rattle.outbox.proofs.Right.{right}
 use Rattle.outbox.proofs.Board.{held-is-enough, release-keeps-good}
 use Rattle.outbox.proofs.Guards.{release-marks-done}
 use Rattle.answers.specs.declared.Answer.the-variants.{Blocked}
 use Rattle.outbox.specs.declared.marks.Marks.{Marks}
-use Rattle.host.specs.Step.{World, Outcome, noRoom, step, worldAfter}
-use Rattle.day.specs.Day.{offerNext, release, isBlocked, run, emptied, patient}
-use Rattle.host.proofs.Steps.{stepBy, step-by, comes, only-done-changes}
-use Rattle.day.proofs.Day.{Ready, ring-after}
-use Rattle.host.proofs.Sounds.{keeps}
-use Rattle.host.proofs.Sent.{short}
-use Rattle.day.proofs.Unblocked.{unblocked}
+use Rattle.host.specs.Step.{World, Outcome, namedPlace, noRoom, step, worldAfter}
+use Rattle.table.proofs.Soundness.{of-sound}
+use Rattle.day.specs.Demand.{Ready}
+use Rattle.day.specs.Day.{offerNext, release, run, emptied, patient}
+use Rattle.laws.specs.Blocked.{isBlocked}
+use Rattle.laws.proofs.Steps.{stepBy, comes, full, only-done-changes}
+use Rattle.day.proofs.Day.{as-judged, ring-after}
+use Rattle.laws.proofs.Sounds.{keeps}
+use Rattle.laws.proofs.Sent.{short}
+use Rattle.laws.proofs.Comes.{unblocked}
 
 -- ---- an empty outbox
 
 module _ (w : World) (s : List ℕ) (ok : Ready w) (none : w .marks .held ≡ 0) where
-  room : isDone (comes w s .answer) ≡ true → noRoom w s (comes w s .plan) ≡ false
+  room : isDone (comes w s .answer) ≡ true → full w s ≡ false
   unfolding noRoom freeBytes
   room done =
       let r = right (length (w .ring)) (w .marks) (ok .ring) in
@@ -38,43 +33,34 @@ module _ (w : World) (s : List ℕ) (ok : Ready w) (none : w .marks .held ≡ 0)
       omega (arith, short (w .table) s (ok .table) done, r .short, none) in
       le-ltb _ _ h
 
-  by : (done full : Bool) → isDone (comes w s .answer) ≡ done → noRoom w s (comes w s .plan) ≡ full → isBlocked (stepBy w s (comes w s) true true done full .answer) ≡ false
-  unfolding isBlocked
-  by false full e f = unblocked (w .table) s
+  by : (done crowd : Bool) → isDone (comes w s .answer) ≡ done → full w s ≡ crowd → isBlocked (stepBy w s (comes w s) true true done crowd .answer) ≡ false
+  by false crowd e f = unblocked (w .table) s (of-sound (w .table) (ok .table))
   by true true e f = absurd (false≢true (sym (room e) ∙ f))
   by true false e f = refl
 
   pub never-blocked : isBlocked (step w s .answer) ≡ false
-  never-blocked =
-      ap (λ (o : Outcome). isBlocked (o .answer)) (step-by w s)
-      ∙ rw (ok .table, ok .ring) (by (isDone (comes w s .answer)) (noRoom w s (comes w s .plan)) refl refl)
-
--- over a sound table and a right ring only two questions are left
-as-judged : (w : World) (s : List ℕ) → Ready w → step w s ≡ stepBy w s (comes w s) true true (isDone (comes w s .answer)) (noRoom w s (comes w s .plan))
-as-judged w s ok =
-    step-by w s
-    ∙ ap₂ (λ (t r : Bool). stepBy w s (comes w s) t r (isDone (comes w s .answer)) (noRoom w s (comes w s .plan))) (ok .table) (ok .ring)
+  never-blocked = ap (λ (o : Outcome). isBlocked (o .answer)) (as-judged w s ok) ∙ by (isDone (comes w s .answer)) (full w s) refl refl
 
 -- ---- what a step leaves behind, ready for the next
 
--- by what was judged on the way
-stays : (w : World) (s : List ℕ) (ok : Ready w) (done full : Bool) → isDone (comes w s .answer) ≡ done → noRoom w s (comes w s .plan) ≡ full
-    → Ready (stepBy w s (comes w s) true true done full .world)
-unfolding worldAfter
-stays w s ok false full e f = ok
-stays w s ok true true e f = ok
-stays w s ok true false e f =
-    record { table = keeps (w .table) s (ok .table) e; ring = ring-after w s (comes w s .plan) (ok .ring) f }
-
 -- a sound table stays sound, and right marks stay right
 pub stays-ready : (w : World) (s : List ℕ) → Ready w → Ready (step w s .world)
+unfolding worldAfter
 stays-ready w s ok =
-    subst (λ (o : Outcome). Ready (o .world)) (sym (step-by w s))
-    (rw (ok .table, ok .ring) (stays w s ok (isDone (comes w s .answer)) (noRoom w s (comes w s .plan)) refl refl))
+    subst (λ (o : Outcome). Ready (o .world)) (sym (as-judged w s ok)) (by-both (isDone (comes w s .answer)) (full w s) refl refl)
+  where
+    by-both : (done crowd : Bool) → isDone (comes w s .answer) ≡ done → full w s ≡ crowd → Ready (stepBy w s (comes w s) true true done crowd .world)
+    by-both false crowd e f = ok
+    by-both true true e f = ok
+    by-both true false e f =
+        record {
+          table = keeps (w .table) s (ok .table) e;
+          ring = ring-after w (namedPlace (w .table) s) (stampOf s) (comes w s .plan) (ok .ring) f;
+        }
 
 -- a blocked entry leaves everything as it was
 pub blocked-stays : (w : World) (s : List ℕ) → isBlocked (step w s .answer) ≡ true → step w s .world ≡ w
-unfolding isBlocked isDone
+unfolding isDone
 blocked-stays w s b =
     let e = eqb-true (answerNumber (step w s .answer)) (answerNumber Blocked) b in
     only-done-changes w s (ap (λ (n : ℕ). eqb n 0) e)
@@ -125,20 +111,20 @@ module _ (w : World) (s : List ℕ) (ok : Ready w) where
       (isDone (comes w s .answer) ≡ true)
       × (freeBytes (length (w .ring)) (w .marks) < length (message (stampOf s) (comes w s .plan)))
 
-  crowded : (done full : Bool) → isDone (comes w s .answer) ≡ done → noRoom w s (comes w s .plan) ≡ full
-      → isBlocked (stepBy w s (comes w s) true true done full .answer) ≡ true → Crowded
-  unfolding isBlocked noRoom
-  crowded false full e f b = absurd (false≢true (sym (unblocked (w .table) s) ∙ b))
+  crowded : (done crowd : Bool) → isDone (comes w s .answer) ≡ done → full w s ≡ crowd
+      → isBlocked (stepBy w s (comes w s) true true done crowd .answer) ≡ true → Crowded
+  unfolding noRoom
+  crowded false crowd e f b = absurd (false≢true (sym (unblocked (w .table) s (of-sound (w .table) (ok .table))) ∙ b))
   crowded true true e f b = (e, ltb-true _ _ f)
   crowded true false e f b = absurd (false≢true b)
 
   pub blocked-only : isBlocked (step w s .answer) ≡ true → Crowded
   blocked-only b =
-      crowded (isDone (comes w s .answer)) (noRoom w s (comes w s .plan)) refl refl
+      crowded (isDone (comes w s .answer)) (full w s) refl refl
       (ap (λ (o : Outcome). isBlocked (o .answer)) (sym (as-judged w s ok)) ∙ b)
 
   pub crowded-blocked : Crowded → isBlocked (step w s .answer) ≡ true
-  unfolding isBlocked noRoom
+  unfolding noRoom
   crowded-blocked c =
       ap (λ (o : Outcome). isBlocked (o .answer)) (as-judged w s ok)
       ∙ ap₂ (λ (x y : Bool). isBlocked (stepBy w s (comes w s) true true x y .answer)) (c .0) (lt-ltb _ _ (c .1))

@@ -1,28 +1,22 @@
 -- The stream is whole messages: every message of a play is legal for its reader, and cutting the bytes by the lengths that the types fix
 -- gives exactly the messages back. Assumes nothing.
-use mathlib.Core.Path.{_≡_, refl, sym, ap, ap₂, _∙_, subst}
-use mathlib.Core.Bool.{Bool, true, false, _&&_, _||_}
-use mathlib.Core.List.{List, [], _∷_, _++_}
-use Prim.Native.Nat.{ℕ, zero, suc, _+_, _≤_, _<_}
-use native.Mathlib.Omega.{arith}
-use lib.Dec.{eqb, ltb}
-use lib.ListN.{length, getD, length-append}
-use lib.Seq.{take-at, drop-at}
-use borrow.Author.Tests.{eqb-true, ltb-true, le-ltb}
+use Rattle.octets.proofs.Proving.{Bool, List, [], _&&_, _++_, _+_, _<_, _||_, _∙_, _∷_, _≡_, _≤_, ap, ap₂, arith, drop-at, eqb, eqb-true, false, getD, le-ltb, length, length-append, ltb, ltb-true, refl, subst, suc, sym, take-at, true, zero, ℕ}
 use Rattle.octets.specs.Choice.{allBelow}
 use Rattle.octets.specs.Bytes.{joined}
 use Rattle.octets.proofs.Below.{all-at, both}
 use Rattle.wire.specs.Layout.{layoutFor}
-use Rattle.wire.specs.Messages.{message as wireMessage, lengthFor, messageLength}
+use Rattle.wire.specs.Messages.{messageLayout, lengthFor, messageLength}
 use Rattle.wire.proofs.Exactly.{done-exactly}
 use Rattle.table.specs.Table.{sound}
 use Rattle.tape.specs.Entries.{stampOf}
-use Rattle.rules.specs.Sent.{message, OneOfTwelve, AtMostOne, silent, told}
+use Rattle.notices.specs.Notices.{message}
+use Rattle.laws.specs.Messages.{OneOfTwelve, AtMostOne, silent, told}
 use Rattle.host.specs.Step.{World, comesTo}
-use Rattle.day.specs.Day.{telling, unlimited, Action, run, cutInto, messagesIn, AllOfTwelve}
-use Rattle.host.proofs.Sent.{sends}
+use Rattle.day.specs.Day.{telling, unlimited, Action, run}
+use Rattle.day.specs.Demand.{bytes, Ready, WholeMessages, cutInto, messagesIn, AllOfTwelve}
+use Rattle.laws.proofs.Sent.{sends}
 use Rattle.day.proofs.Plays.{plays}
-use Rattle.day.proofs.Day.{Ready, bytes, streams}
+use Rattle.day.proofs.Day.{streams}
 
 -- ---- the messages of a play
 
@@ -40,26 +34,26 @@ all-legal ss t ok =
 -- ---- cutting
 
 -- message k of the sixteen, where it is outbound: its type fixes its length, which is not 0
-lengths-fixed : allBelow 16 (λ k. ltb k 4 || (eqb (messageLength false (wireMessage k .code)) (wireMessage k .size) && ltb 0 (wireMessage k .size))) ≡ true
+lengths-fixed : allBelow 16 (λ k. ltb k 4 || (eqb (messageLength false (messageLayout k .code)) (messageLayout k .size) && ltb 0 (messageLayout k .size))) ≡ true
 unfolding allBelow lengthFor layoutFor
 lengths-fixed = refl
 
 module _ (m : List ℕ) (one : OneOfTwelve m) where
-  fixed : (eqb (messageLength false (wireMessage (one .number) .code)) (wireMessage (one .number) .size) && ltb 0 (wireMessage (one .number) .size)) ≡ true
+  fixed : (eqb (messageLength false (messageLayout (one .number) .code)) (messageLayout (one .number) .size) && ltb 0 (messageLayout (one .number) .size)) ≡ true
   fixed =
-      subst (λ (b : Bool). (b || (eqb (messageLength false (wireMessage (one .number) .code)) (wireMessage (one .number) .size) && ltb 0 (wireMessage (one .number) .size))) ≡ true)
+      subst (λ (b : Bool). (b || (eqb (messageLength false (messageLayout (one .number) .code)) (messageLayout (one .number) .size) && ltb 0 (messageLayout (one .number) .size))) ≡ true)
       (le-ltb (one .number) 4 (one .low)) (all-at _ 16 (one .number) lengths-fixed (one .high))
 
   long : messageLength false (getD m 0 0) ≡ length m
   long =
-      let legal = done-exactly (wireMessage (one .number)) m .0 (one .legal) in
+      let legal = done-exactly (messageLayout (one .number)) m .0 (one .legal) in
       ap (messageLength false) (legal .typed) ∙ eqb-true _ _ (both _ _ fixed .0) ∙ sym (legal .long)
 
   some : 0 < length m
   some =
-      let legal = done-exactly (wireMessage (one .number)) m .0 (one .legal) in
-      let size = wireMessage (one .number) .size in
-      omega (arith, legal .long, ltb-true 0 size (both (eqb (messageLength false (wireMessage (one .number) .code)) size) (ltb 0 size) fixed .1))
+      let legal = done-exactly (messageLayout (one .number)) m .0 (one .legal) in
+      let size = messageLayout (one .number) .size in
+      omega (arith, legal .long, ltb-true 0 size (both (eqb (messageLength false (messageLayout (one .number) .code)) size) (ltb 0 size) fixed .1))
 
 pub cut-again : (ms : List (List ℕ)) → AllOfTwelve ms → (n : ℕ) → length (joined ms) ≤ n → cutInto n (joined ms) ≡ ms
 unfolding joined cutInto
@@ -76,10 +70,6 @@ cut-again ((b ∷ bs) ∷ ms) all (suc n) enough =
     ∙ cut-again ms (all .1) n (omega (arith, length-append m (joined ms))))
 
 -- ---- of every schedule that gets through the list
-
-pub record WholeMessages (s : List ℕ) (ms : List (List ℕ)) : Type 0 where
-  pub cut : messagesIn s ≡ ms
-  pub legal : AllOfTwelve ms
 
 pub whole-messages : (w : World) (ss : List (List ℕ)) (todo : List Action) → Ready w → w .marks .held ≡ 0 → run w ss todo .left ≡ []
     → WholeMessages (run w ss todo .released ++ bytes (run w ss todo .world)) (unlimited (w .table) ss .messages)

@@ -1,10 +1,5 @@
 -- What a message tells as executed: an Executed its shares, under its own token, and every other message nothing. Assumes nothing.
-use mathlib.Core.Path.{_≡_, refl, sym, ap, ap₂, _∙_}
-use mathlib.Core.Bool.{Bool, true, false}
-use mathlib.Core.List.{List, [], _∷_, _++_, append-assoc}
-use Prim.Native.Nat.{ℕ, _+_, _^_, _<_}
-use native.Mathlib.Omega.{arith}
-use lib.ListN.{length, length-append}
+use Rattle.octets.proofs.Proving.{Bool, List, [], _++_, _+_, _<_, _^_, _∙_, _∷_, _≡_, ap, append-assoc, ap₂, arith, false, length, length-append, refl, sym, true, ℕ}
 use Rattle.octets.specs.Choice.{pick}
 use Rattle.octets.specs.Bytes.{part, same, digits, numberOf}
 use Rattle.octets.proofs.Laws.{length-digits, number-digits}
@@ -13,11 +8,11 @@ use Rattle.wire.specs.Layout.{spell}
 use Rattle.wire.proofs.Layouts.{part-there}
 use Rattle.wire.specs.Messages.{executed}
 use Rattle.outbound.specs.Outbound.{systemEventBytes, acceptedBytes, replacedBytes, canceledBytes, aiqCancelledBytes, executedBytes, rejectedBytes, cancelPendingBytes, cancelRejectBytes, priorityUpdateBytes, modifiedBytes, executedOf}
-use Rattle.table.specs.declared.order.Order.{Order}
+use Rattle.orders.specs.declared.order.Order.{Order}
 use Rattle.rules.specs.declared.plan.Notice.{Notice}
 use Rattle.rules.specs.declared.plan.Notice.the-variants.{Accepted, AiqCancelled, CancelPending, CancelReject, Canceled, Executed, Modified, PriorityUpdate, Rejected, Replaced, Silent, SystemEvent}
-use Rattle.rules.specs.Sane.{toldExecuted}
-use Rattle.rules.specs.Sent.{noticeBytes, executedNotice}
+use Rattle.laws.proofs.Shapes.{toldExecuted}
+use Rattle.notices.specs.Notices.{noticeBytes, executedNotice}
 use Rattle.day.specs.Chain.{executedBy, executedIn}
 use Rattle.day.specs.Day.{telling}
 

@@ -1,32 +1,24 @@
 -- A token once used stays used: no entry takes a record's token away, and the used records only grow. Assumes nothing.
-use mathlib.Core.Path.{_≡_, refl, sym, ap, _∙_, subst}
-use mathlib.Core.Bool.{Bool, true, false, false≢true}
-use mathlib.Core.Logic.{_⊎_, inl, inr}
-use mathlib.Core.List.{List, []}
-use Prim.Native.Nat.{ℕ, _≤_, _<_}
-use native.Mathlib.Decide.{decLt, ℕ-discrete}
-use native.Mathlib.Omega.{arith}
-use borrow.Author.Tests.{ltb-true, le-ltb}
-use lib.Dec.{ltb}
-use lib.ListN.{length}
+use Rattle.octets.proofs.Proving.{Bool, List, [], _<_, _∙_, _≡_, _≤_, _⊎_, ap, arith, decLt, false, false≢true, inl, inr, le-ltb, length, ltb, ltb-true, refl, subst, sym, true, ℕ, ℕ-discrete}
 use Rattle.octets.specs.Choice.{pick}
 use Rattle.answers.specs.Answer.{isDone}
-use Rattle.table.specs.Order.{isUsed, noOrder}
-use Rattle.table.specs.Table.{header, orderAt, placeOf, orderFrom, orderNamed, recordBytes, sound}
-use Rattle.table.specs.declared.order.Order.{Order}
-use Rattle.table.proofs.Soundness.{Sound, Live, Dead, Rejected, of-sound}
+use Rattle.orders.specs.Order.{isUsed, noOrder}
+use Rattle.table.specs.Table.{header, usedIn, orderAt, placeOf, orderNamed, recordBytes, sound}
+use Rattle.orders.specs.declared.order.Order.{Order}
+use Rattle.orders.proofs.Standing.{Live, Dead, Rejected}
+use Rattle.table.proofs.Soundness.{Sound, of-sound}
 use Rattle.table.proofs.Finding.{found, not-found}
 use Rattle.tape.specs.Entries.{tokenOf}
 use Rattle.rules.specs.declared.plan.Decision.{Decision}
-use Rattle.rules.specs.Sane.{Standing, stillLive, nowDead, Change, unchanged, changed}
-use Rattle.rules.proofs.Shapes.{change-of}
+use Rattle.laws.proofs.Shapes.{Change, unchanged, changed, change-of}
 use Rattle.outbox.specs.Outbox.{ringGood}
-use Rattle.host.specs.Step.{World, Outcome, comesTo, noRoom, tableAfter, worldAfter, step}
-use Rattle.host.proofs.Given.{named-is, named-used}
-use Rattle.host.proofs.Sounds.{P, K, keeps, p, place, named, one, none-unused}
-use Rattle.host.proofs.Records.{Face, left, left-used, changed-face, unchanged-face, unchanged-faces, earlier-face}
-use Rattle.host.proofs.Steps.{stepBy, step-by, comes}
-use Rattle.day.specs.Day.{unlimited}
+use Rattle.host.specs.Step.{World, Outcome, comesTo, worldAfter, step}
+use Rattle.laws.proofs.Given.{from-is, from-none, live-there, none-unused}
+use Rattle.laws.proofs.Standing.{standing-used}
+use Rattle.laws.proofs.Sounds.{S, P, K, keeps, p, place, o, one}
+use Rattle.laws.proofs.Records.{Face, left, left-used, changed-face, unchanged-face, unchanged-faces, earlier-face}
+use Rattle.laws.proofs.Steps.{stepBy, step-by, comes, full}
+use Rattle.day.specs.Day.{unlimited, tableAfter}
 use Rattle.day.proofs.Plays.{plays}
 
 -- ---- a token is used where a used record has it
@@ -39,30 +31,28 @@ good-used s o (inr (inl d)) = rw (d .0)
 good-used s o (inr (inr r)) = rw (r .0)
 
 module _ (t token : List ℕ) where
-  pub has-used : Sound t → (i : ℕ) → i < header t .used → orderAt t i .token ≡ token → isUsed (orderNamed t token) ≡ true
+  pub named-is : placeOf t token < usedIn t → orderNamed t token ≡ orderAt t (placeOf t token)
+  unfolding orderNamed
+  named-is h = from-is t (placeOf t token) h
+
+  pub named-none : usedIn t ≤ placeOf t token → orderNamed t token ≡ noOrder
+  unfolding orderNamed
+  named-none h = from-none t (placeOf t token) h
+
+  pub has-used : Sound t → (i : ℕ) → i < usedIn t → orderAt t i .token ≡ token → isUsed (orderNamed t token) ≡ true
   unfolding orderAt
-  has-used ok i l has = elim (decLt (placeOf t token) (header t .used)) [
-    | yes h ↦ ap isUsed (named-is t token h) ∙ good-used (recordBytes t (placeOf t token)) _ (ok .records (placeOf t token) h .standing)
+  has-used ok i l has = elim (decLt (placeOf t token) (usedIn t)) [
+    | yes h ↦
+        ap isUsed (named-is h)
+        ∙ good-used (recordBytes t (placeOf t token)) _ (ok .records (placeOf t token) (omega (arith, h, ok .used)) .standing)
     | no h ↦ absurd (not-found t token (omega arith) i l has)
   ]
 
-  pub named-none : header t .used ≤ placeOf t token → orderNamed t token ≡ noOrder
-  unfolding orderNamed orderFrom
-  named-none h = rw (le-ltb _ _ h)
-
-  pub used-has : isUsed (orderNamed t token) ≡ true → placeOf t token < header t .used
-  unfolding orderNamed orderFrom
-  used-has u = by (ltb (placeOf t token) (header t .used)) refl u
-    where
-      by : (b : Bool) → ltb (placeOf t token) (header t .used) ≡ b → isUsed (pick b (orderAt t (placeOf t token)) noOrder) ≡ true
-          → placeOf t token < header t .used
-      by true e u = ltb-true _ _ e
-      by false e u = absurd (false≢true (sym none-unused ∙ u))
-
-pub standing-used : {o : Order} → Standing o → isUsed o ≡ true
-unfolding isUsed
-standing-used (stillLive state shares) = rw state
-standing-used (nowDead state spent) = rw state
+  pub used-has : isUsed (orderNamed t token) ≡ true → placeOf t token < usedIn t
+  used-has u = elim (decLt (placeOf t token) (usedIn t)) [
+    | yes h ↦ h
+    | no h ↦ absurd (false≢true (sym none-unused ∙ ap isUsed (sym (named-none (omega arith))) ∙ u))
+  ]
 
 -- ---- one done entry
 
@@ -73,14 +63,14 @@ module _ (t s : List ℕ) (ok : sound t ≡ true) (done : isDone (comesTo t s .a
   pub tokens-stay : (i : ℕ) → i < header t .used → orderAt (left t s ok done) i .token ≡ orderAt t i .token
   tokens-stay i l = ap (λ (x : Face). x .token) (earlier-face t s ok done i l) ∙ by (change-of (K t s ok done .1 .1 .shape))
     where
-      by : Change (named t s ok done) (p t s ok done .notice) (p t s ok done .changed) → orderAt (one t s ok done) i .token ≡ orderAt t i .token
+      by : Change (o t s ok done) (p t s ok done .notice) (p t s ok done .changed) → orderAt (one t s ok done) i .token ≡ orderAt t i .token
       by (unchanged e) = ap (λ (x : Face). x .token) (unchanged-faces t s ok done (ap isUsed e ∙ none-unused) i)
       by (changed c) = elim (ℕ-discrete i at) [
         | yes e ↦
             rw e
-            (ap (λ (x : Face). x .token) (changed-face t s ok done (standing-used (c .standing)))
+            (ap (λ (x : Face). x .token) (changed-face t s ok done (standing-used _ (c .standing)))
             ∙ c .token
-            ∙ ap (λ (o : Order). o .token) (named-is t (tokenOf s) (named-used t (tokenOf s) (c .alive))))
+            ∙ ap (λ (q : Order). q .token) (from-is t at (live-there t at (c .alive))))
         | no e ↦ ap (λ (x : Face). x .token) (unchanged-face t s ok done i e)
       ]
 
@@ -92,8 +82,8 @@ module _ (t s : List ℕ) (ok : sound t ≡ true) (done : isDone (comesTo t s .a
       let l = used-has t token u in
       let after : Sound (left t s ok done) = of-sound _ (ap sound left-is ∙ keeps t s ok done) in
       ap (λ (x : List ℕ). isUsed (orderNamed x token)) (sym left-is)
-      ∙ has-used (left t s ok done) token after (placeOf t token) (omega (arith, left-used t s ok done))
-      (tokens-stay (placeOf t token) l ∙ found t token l .has)
+      ∙ has-used (left t s ok done) token after (placeOf t token) (omega (arith, l, S t s ok done .used, after .used, left-used t s ok done))
+      (tokens-stay (placeOf t token) (omega (arith, l, S t s ok done .used)) ∙ found t token l .has)
 
 -- ---- any step, and any tape
 
@@ -101,19 +91,19 @@ module _ (w : World) (s token : List ℕ) where
   abbrev Used : Outcome → Type 0
   Used o = isUsed (orderNamed (o .world .table) token) ≡ true
 
-  by : (tableGood ringRight done full : Bool) → sound (w .table) ≡ tableGood → isDone (comes w s .answer) ≡ done
-      → isUsed (orderNamed (w .table) token) ≡ true → Used (stepBy w s (comes w s) tableGood ringRight done full)
+  by : (tableGood ringRight done crowd : Bool) → sound (w .table) ≡ tableGood → isDone (comes w s .answer) ≡ done
+      → isUsed (orderNamed (w .table) token) ≡ true → Used (stepBy w s (comes w s) tableGood ringRight done crowd)
   unfolding worldAfter
-  by false r d full g e u = u
-  by true false d full g e u = u
-  by true true false full g e u = u
+  by false r d crowd g e u = u
+  by true false d crowd g e u = u
+  by true true false crowd g e u = u
   by true true true true g e u = u
   by true true true false g e u = stays-used (w .table) s g e token u
 
   pub step-stays-used : isUsed (orderNamed (w .table) token) ≡ true → isUsed (orderNamed (step w s .world .table) token) ≡ true
   step-stays-used u =
       subst Used (sym (step-by w s))
-      (by (sound (w .table)) (ringGood (length (w .ring)) (w .marks)) (isDone (comes w s .answer)) (noRoom w s (comes w s .plan)) refl refl u)
+      (by (sound (w .table)) (ringGood (length (w .ring)) (w .marks)) (isDone (comes w s .answer)) (full w s) refl refl u)
 
 pub used-for-good : (ss : List (List ℕ)) (t token : List ℕ) → sound t ≡ true → isUsed (orderNamed t token) ≡ true
     → isUsed (orderNamed (unlimited t ss .table) token) ≡ true

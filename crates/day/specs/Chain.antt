@@ -8,7 +8,7 @@ use Rattle.octets.specs.Choice.{pick}
 use Rattle.octets.specs.Bytes.{same}
 use Rattle.wire.specs.Messages.{executed}
 use Rattle.outbound.specs.Outbound.{executedOf}
-use Rattle.table.specs.Order.{isUsed}
+use Rattle.orders.specs.Order.{isUsed}
 use Rattle.table.specs.Table.{orderNamed}
 
 -- what a message tells as executed under a token

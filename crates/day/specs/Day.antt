@@ -1,20 +1,19 @@
 -- A day: a list of entries played with unlimited room, and the same list through an outbox, with offers, reads and releases in any order
 -- (demand 3).
-use Prim.Native.Nat.{ℕ, zero, suc}
+use Prim.Native.Nat.{ℕ}
 use mathlib.Core.Bool.{Bool, true, false}
 use mathlib.Core.List.{List, [], _∷_, _++_}
-use lib.ListN.{length, take, drop}
-use lib.Dec.{eqb}
+use lib.ListN.{length, take}
 use Rattle.octets.specs.Choice.{pick}
-use Rattle.answers.specs.Answer.{answerNumber, isDone}
-use Rattle.wire.specs.Messages.{messageLength}
+use Rattle.answers.specs.Answer.{isDone}
 use Rattle.outbox.specs.Outbox.{held, releaseAnswer, releaseMarks}
-use Rattle.rules.specs.Sent.{message, OneOfTwelve}
+use Rattle.notices.specs.Notices.{message}
 use Rattle.tape.specs.Entries.{stampOf}
-use Rattle.host.specs.Step.{World, Outcome, step, comesTo, tableAfter}
+use Rattle.host.specs.Step.{World, Outcome, namedPlace, committed, step, comesTo}
+use Rattle.laws.specs.Blocked.{isBlocked}
 use Rattle.answers.specs.declared.Answer.{Answer}
-use Rattle.answers.specs.declared.Answer.the-variants.{Blocked}
 use Rattle.rules.specs.declared.plan.Decision.{Decision}
+use Rattle.rules.specs.declared.plan.Plan.{Plan}
 use Rattle.outbox.specs.declared.marks.Marks.{Marks}
 
 -- ---- unlimited room: what the rules alone make of a list of entries
@@ -28,6 +27,10 @@ pub record Played : Type 0 where
 abbrev pub telling : List ℕ → List (List ℕ) → List (List ℕ)
 telling [] ms = ms
 telling (b ∷ bs) ms = (b ∷ bs) ∷ ms
+
+-- the table after a done entry
+abbrev pub tableAfter : List ℕ → List ℕ → Plan → List ℕ
+tableAfter t s p = committed t (namedPlace t s) (stampOf s) p
 
 -- one entry, and then the rest
 abbrev pub playOn : List ℕ → List ℕ → Decision → Bool → (List ℕ → Played) → Played
@@ -56,9 +59,6 @@ pub record Ran : Type 0 where
   pub answers : List Answer
   pub released : List ℕ
   pub world : World
-
-unfoldable pub isBlocked : Answer → Bool
-isBlocked a = eqb (answerNumber a) (answerNumber Blocked)
 
 abbrev pub withMarks : World → Marks → World
 withMarks w m = record { table = w .table; ring = w .ring; marks = m }
@@ -95,24 +95,3 @@ patient w (s ∷ ss) =
     pick (isBlocked (step w s .answer))
     (offerNext ∷ release (w .marks .held) ∷ offerNext ∷ patient (step (emptied w) s .world) ss)
     (offerNext ∷ patient (step w s .world) ss)
-
--- ---- the stream cut into messages, by the lengths that their types fix
-
--- the message in front, and then the rest
-abbrev pub cutOn : List ℕ → (List ℕ → List (List ℕ)) → List (List ℕ)
-cutOn [] rest = []
-cutOn (b ∷ bs) rest = take (messageLength false b) (b ∷ bs) ∷ rest (drop (messageLength false b) (b ∷ bs))
-
--- until nothing is left, n messages at most
-unfoldable pub cutInto : ℕ → List ℕ → List (List ℕ)
-cutInto zero s = []
-cutInto (suc n) s = cutOn s (cutInto n)
-
--- no message is empty, so there are no more messages than bytes
-unfoldable pub messagesIn : List ℕ → List (List ℕ)
-messagesIn s = cutInto (length s) s
-
--- each is one of the twelve, legal for its reader
-abbrev pub AllOfTwelve : List (List ℕ) → Type 0
-AllOfTwelve [] = Unit {0}
-AllOfTwelve (m ∷ ms) = OneOfTwelve m × AllOfTwelve ms

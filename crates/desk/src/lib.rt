@@ -3,21 +3,24 @@ ghost use mathlib.Core.Path.{_≡_};
 ghost use Rattle.table.specs.Fresh.{freshAnswer, freshTable};
 ghost use Rattle.desk.specs.Desk.{deskSettings};
 use answers::Answer;
+use header::settings::Firm;
+use header::settings::Settings;
 use table::fresh::fresh;
-use table::settings::Settings;
+use wire::shares::Total;
 
 // The table's bytes: a header of 64 and 800 records of 80.
 pub const TABLE_SIZE: usize = 64_064;
 
 pub const RING_SIZE: usize = 4_096;
 
-// One firm stands in the first of eight places; the others are not looked at.
+// One firm is listed. It stands in all eight places, since those past the count are not looked at.
 pub fn settings() -> Settings
     ensures { λ r. ⌜ r ≡ deskSettings ⌝ }
 {
-    let firms = *b"ABCD\0\0\0\0\0\0\0\0\0\0\0\0\0\0\0\0\0\0\0\0\0\0\0\0\0\0\0\0";
+    let threshold = Total(1_000_000);
+    let firms = [Firm { code: *b"ABCD" }; 8];
     Settings {
-        threshold: 1_000_000,
+        threshold,
         firms,
         count: 1,
     }

@@ -1,2 +1,2 @@
-pub mod Back
-pub mod Found
+pub mod Laws
+pub mod Unique

@@ -10,7 +10,7 @@ use Rattle.answers.specs.Answer.{ifDone}
 use Rattle.answers.specs.declared.Answer.{Answer}
 use Rattle.answers.specs.declared.Answer.the-variants.{Malformed}
 use Rattle.wire.specs.Layout.{Layout, layoutFor}
-use Rattle.wire.specs.Messages.{inbound, outbound, readAnswer, writeAnswer, written}
+use Rattle.wire.specs.Messages.{inbound, outbound, readAnswer, writeAnswer, bufferAfter}
 
 -- the reader's answer where it refuses, and otherwise the writer's
 unfoldable pub echoAnswer : Layout → List ℕ → List ℕ → Answer
@@ -18,7 +18,7 @@ echoAnswer l s out = ifDone (readAnswer l s) (writeAnswer l s out) (readAnswer l
 
 -- only a message that was read is written
 unfoldable pub echoed : Layout → List ℕ → List ℕ → List ℕ
-echoed l s out = ifDone (readAnswer l s) (written l s out) out
+echoed l s out = ifDone (readAnswer l s) (bufferAfter l s out) out
 
 -- the same where the type says which layout it is; a type that none has is 2
 abbrev pub answerFor : Option Layout → List ℕ → List ℕ → Answer

@@ -1,7 +1,6 @@
 // The four messages that a client sends, read and written back.
-use crate::first::first_byte;
 use answers::Answer;
-use answers::number;
+use answers::is_done;
 use inbound::cancel_order::read_cancel_order;
 use inbound::cancel_order::write_cancel_order;
 use inbound::enter_order::read_enter_order;
@@ -18,20 +17,16 @@ ghost use Rattle.echo.specs.Echo.{echoAnswer, echoed, answerAmong, echoe
 pub(crate) fn echo_inbound(s: &[u8], out: &mut [u8]) -> Answer
     ensures { λ r. ⌜ (r ≡ answerAmong inbound (now (s .entry)) (now (out .entry))) × (now (out .exit) ≡ echoedAmong inbound (now (s .entry)) (now (out .entry))) ⌝ }
 {
-    let letter = first_byte(s);
-    if letter == b'O' {
-        return echo_enter_order(s, out);
+    if s.len() == 0 {
+        return Answer::Malformed;
     }
-    if letter == b'U' {
-        return echo_replace_order(s, out);
+    match s[0] {
+        b'O' => echo_enter_order(s, out),
+        b'U' => echo_replace_order(s, out),
+        b'X' => echo_cancel_order(s, out),
+        b'M' => echo_modify_order(s, out),
+        _ => Answer::Malformed,
     }
-    if letter == b'X' {
-        return echo_cancel_order(s, out);
-    }
-    if letter == b'M' {
-        return echo_modify_order(s, out);
-    }
-    Answer::Malformed
 }
 
 fn echo_enter_order(s: &[u8], out: &mut [u8]) -> Answer
@@ -39,7 +34,7 @@ fn echo_enter_order(s: &[u8], out: &mut [u8]) -> Answer
 {
     let m = read_enter_order(s);
     let answer = m.answer;
-    if number(answer) == 0 {
+    if is_done(answer) {
         let body = m.body;
         return write_enter_order(out, body);
     }
@@ -51,7 +46,7 @@ fn echo_replace_order(s: &[u8], out: &mut [u8]) -> Answer
 {
     let m = read_replace_order(s);
     let answer = m.answer;
-    if number(answer) == 0 {
+    if is_done(answer) {
         let body = m.body;
         return write_replace_order(out, body);
     }
@@ -63,7 +58,7 @@ fn echo_cancel_order(s: &[u8], out: &mut [u8]) -> Answer
 {
     let m = read_cancel_order(s);
     let answer = m.answer;
-    if number(answer) == 0 {
+    if is_done(answer) {
         let body = m.body;
         return write_cancel_order(out, body);
     }
@@ -75,7 +70,7 @@ fn echo_modify_order(s: &[u8], out: &mut [u8]) -> Answer
 {
     let m = read_modify_order(s);
     let answer = m.answer;
-    if number(answer) == 0 {
+    if is_done(answer) {
         let body = m.body;
         return write_modify_order(out, body);
     }

@@ -1,7 +1,6 @@
 // The twelve messages that the host sends, read and written back.
-use crate::first::first_byte;
 use answers::Answer;
-use answers::number;
+use answers::is_done;
 use outbound::accepted::read_accepted;
 use outbound::accepted::write_accepted;
 use outbound::aiq_cancelled::read_aiq_cancelled;
@@ -27,60 +26,31 @@ use outbound::replaced::write_replaced;
 use outbound::system_event::read_system_event;
 use outbound::system_event::write_system_event;
 ghost use mathlib.Core.Path.{_≡_};
-ghost use lib.ListN.{drop};
 ghost use Rattle.wire.specs.Messages.{systemEvent, accepted, replaced, canceled, aiqCancelled, executed, brokenTrade, rejected, cancelPending, cancelReject, priorityUpdate, modified, outbound};
 ghost use Rattle.echo.specs.Echo.{echoAnswer, echoed, answerAmong, echoedAmong};
 
-// By the type. Twelve questions are asked in two functions, to keep each small.
+// By the type.
 pub(crate) fn echo_outbound(s: &[u8], out: &mut [u8]) -> Answer
     ensures { λ r. ⌜ (r ≡ answerAmong outbound (now (s .entry)) (now (out .entry))) × (now (out .exit) ≡ echoedAmong outbound (now (s .entry)) (now (out .entry))) ⌝ }
 {
-    let letter = first_byte(s);
-    if letter == b'S' {
-        return echo_system_event(s, out);
+    if s.len() == 0 {
+        return Answer::Malformed;
     }
-    if letter == b'A' {
-        return echo_accepted(s, out);
+    match s[0] {
+        b'S' => echo_system_event(s, out),
+        b'A' => echo_accepted(s, out),
+        b'U' => echo_replaced(s, out),
+        b'C' => echo_canceled(s, out),
+        b'D' => echo_aiq_cancelled(s, out),
+        b'E' => echo_executed(s, out),
+        b'B' => echo_broken_trade(s, out),
+        b'J' => echo_rejected(s, out),
+        b'P' => echo_cancel_pending(s, out),
+        b'I' => echo_cancel_reject(s, out),
+        b'T' => echo_priority_update(s, out),
+        b'M' => echo_modified(s, out),
+        _ => Answer::Malformed,
     }
-    if letter == b'U' {
-        return echo_replaced(s, out);
-    }
-    if letter == b'C' {
-        return echo_canceled(s, out);
-    }
-    if letter == b'D' {
-        return echo_aiq_cancelled(s, out);
-    }
-    if letter == b'E' {
-        return echo_executed(s, out);
-    }
-    echo_rest(s, out)
-}
-
-// The last six types.
-fn echo_rest(s: &[u8], out: &mut [u8]) -> Answer
-    ensures { λ r. ⌜ (r ≡ answerAmong (drop 6 outbound) (now (s .entry)) (now (out .entry))) × (now (out .exit) ≡ echoedAmong (drop 6 outbound) (now (s .entry)) (now (out .entry))) ⌝ }
-{
-    let letter = first_byte(s);
-    if letter == b'B' {
-        return echo_broken_trade(s, out);
-    }
-    if letter == b'J' {
-        return echo_rejected(s, out);
-    }
-    if letter == b'P' {
-        return echo_cancel_pending(s, out);
-    }
-    if letter == b'I' {
-        return echo_cancel_reject(s, out);
-    }
-    if letter == b'T' {
-        return echo_priority_update(s, out);
-    }
-    if letter == b'M' {
-        return echo_modified(s, out);
-    }
-    Answer::Malformed
 }
 
 fn echo_system_event(s: &[u8], out: &mut [u8]) -> Answer
@@ -88,7 +58,7 @@ fn echo_system_event(s: &[u8], out: &mut [u8]) -> Answer
 {
     let m = read_system_event(s);
     let answer = m.answer;
-    if number(answer) == 0 {
+    if is_done(answer) {
         let body = m.body;
         return write_system_event(out, body);
     }
@@ -100,7 +70,7 @@ fn echo_accepted(s: &[u8], out: &mut [u8]) -> Answer
 {
     let m = read_accepted(s);
     let answer = m.answer;
-    if number(answer) == 0 {
+    if is_done(answer) {
         let body = m.body;
         return write_accepted(out, body);
     }
@@ -112,7 +82,7 @@ fn echo_replaced(s: &[u8], out: &mut [u8]) -> Answer
 {
     let m = read_replaced(s);
     let answer = m.answer;
-    if number(answer) == 0 {
+    if is_done(answer) {
         let body = m.body;
         return write_replaced(out, body);
     }
@@ -124,7 +94,7 @@ fn echo_canceled(s: &[u8], out: &mut [u8]) -> Answer
 {
     let m = read_canceled(s);
     let answer = m.answer;
-    if number(answer) == 0 {
+    if is_done(answer) {
         let body = m.body;
         return write_canceled(out, body);
     }
@@ -136,7 +106,7 @@ fn echo_aiq_cancelled(s: &[u8], out: &mut [u8]) -> Answer
 {
     let m = read_aiq_cancelled(s);
     let answer = m.answer;
-    if number(answer) == 0 {
+    if is_done(answer) {
         let body = m.body;
         return write_aiq_cancelled(out, body);
     }
@@ -148,7 +118,7 @@ fn echo_executed(s: &[u8], out: &mut [u8]) -> Answer
 {
     let m = read_executed(s);
     let answer = m.answer;
-    if number(answer) == 0 {
+    if is_done(answer) {
         let body = m.body;
         return write_executed(out, body);
     }
@@ -160,7 +130,7 @@ fn echo_broken_trade(s: &[u8], out: &mut [u8]) -> Answer
 {
     let m = read_broken_trade(s);
     let answer = m.answer;
-    if number(answer) == 0 {
+    if is_done(answer) {
         let body = m.body;
         return write_broken_trade(out, body);
     }
@@ -172,7 +142,7 @@ fn echo_rejected(s: &[u8], out: &mut [u8]) -> Answer
 {
     let m = read_rejected(s);
     let answer = m.answer;
-    if number(answer) == 0 {
+    if is_done(answer) {
         let body = m.body;
         return write_rejected(out, body);
     }
@@ -184,7 +154,7 @@ fn echo_cancel_pending(s: &[u8], out: &mut [u8]) -> Answer
 {
     let m = read_cancel_pending(s);
     let answer = m.answer;
-    if number(answer) == 0 {
+    if is_done(answer) {
         let body = m.body;
         return write_cancel_pending(out, body);
     }
@@ -196,7 +166,7 @@ fn echo_cancel_reject(s: &[u8], out: &mut [u8]) -> Answer
 {
     let m = read_cancel_reject(s);
     let answer = m.answer;
-    if number(answer) == 0 {
+    if is_done(answer) {
         let body = m.body;
         return write_cancel_reject(out, body);
     }
@@ -208,7 +178,7 @@ fn echo_priority_update(s: &[u8], out: &mut [u8]) -> Answer
 {
     let m = read_priority_update(s);
     let answer = m.answer;
-    if number(answer) == 0 {
+    if is_done(answer) {
         let body = m.body;
         return write_priority_update(out, body);
     }
@@ -220,7 +190,7 @@ fn echo_modified(s: &[u8], out: &mut [u8]) -> Answer
 {
     let m = read_modified(s);
     let answer = m.answer;
-    if number(answer) == 0 {
+    if is_done(answer) {
         let body = m.body;
         return write_modified(out, body);
     }

@@ -1,5 +1,4 @@
 // Reading any of the sixteen messages and writing it back: what a client's author tries a codec with.
-mod first;
 mod from_client;
 mod from_host;
 

@@ -1,2 +1,3 @@
-pub mod Fronts
 pub mod Slides
+pub mod Holds
+pub mod Unique

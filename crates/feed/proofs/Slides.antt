@@ -1,12 +1,5 @@
 -- One turn of sliding bytes to the front: what has gone is in front, and what is still to go is untouched. Assumes nothing.
-use Prim.Native.Nat.{ℕ, _+_, _<_}
-use mathlib.Core.Path.{_≡_, refl, sym, ap, ap₂, _∙_}
-use mathlib.Core.List.{List, [], _∷_, _++_}
-use native.Mathlib.Numerals.{add-one}
-use native.Mathlib.Nat.{add-zero}
-use native.Mathlib.Omega.{arith}
-use lib.ListN.{length, take, drop, getD, set, length-set}
-use lib.Seq.{take-suc-set, drop-set-lt, drop-drop, getD-drop}
+use Rattle.octets.proofs.Proving.{List, [], _++_, _+_, _<_, _∙_, _∷_, _≡_, add-one, add-zero, ap, ap₂, arith, drop, drop-drop, drop-set-lt, getD, getD-drop, length, length-set, refl, set, sym, take, take-suc-set, ℕ}
 use Rattle.octets.specs.Bytes.{part}
 use Rattle.octets.proofs.Laws.{part-snoc}
 

@@ -1,16 +1,14 @@
-// The held bytes: where they stand, the entry at their front, and handing it out.
+// The bytes that were read and are still held: where they stand in the buffer.
 ghost use mathlib.Core.Path.{_≡_};
-ghost use Rattle.feed.specs.Feed.{unread, nextEntry, past};
-use tape::cutting::Cut;
-use tape::cutting::cut_at;
+ghost use Rattle.feed.specs.Feed.{unread, past};
 
-// The held bytes stand in the buffer from `at` on and before `end`.
-pub struct Held {
+// They stand from `at` on and before `end`. Marks that lie outside the buffer hold nothing.
+pub(crate) struct Held {
     pub at: usize,
     pub end: usize,
 }
 
-pub fn unread(buffer: &[u8], held: Held) -> &[u8]
+pub(crate) fn unread(buffer: &[u8], held: Held) -> &[u8]
     ensures { λ r. ⌜ now r ≡ unread (now (buffer .entry)) held ⌝ }
 {
     let at = held.at;
@@ -24,20 +22,8 @@ pub fn unread(buffer: &[u8], held: Held) -> &[u8]
     &buffer[at..end]
 }
 
-// The entry at the front. Where the bytes begin with no whole entry they are handed out as they are, and the host answers 2.
-pub fn next_entry(bytes: &[u8]) -> &[u8]
-    ensures { λ r. ⌜ now r ≡ nextEntry (now (bytes .entry)) ⌝ }
-{
-    match cut_at(bytes, 0) {
-        Cut::Whole(end) => &bytes[..end],
-        Cut::Short => bytes,
-        Cut::Unknown => bytes,
-        Cut::End => bytes,
-    }
-}
-
-// The first n of the held bytes were handed out.
-pub fn past(held: Held, n: usize) -> Held
+// The first n of them were handed out.
+pub(crate) fn past(held: Held, n: usize) -> Held
     ensures { λ r. ⌜ r ≡ past held n ⌝ }
 {
     let at = held.at;

@@ -1,4 +1,2 @@
 pub mod Types
 pub mod Step
-pub mod Cases
-pub mod Edges

@@ -1,24 +1,20 @@
 // Writing a plan down: the one place where a step changes the table.
+use header::Header;
+use orders::order::Order;
+use orders::order::is_used;
+use rules::plan::Begins;
 use rules::plan::Plan;
-use table::header::Header;
-use table::order::Order;
-use table::order::is_used;
 use table::places::store_header;
 use table::places::store_order;
 ghost use mathlib.Core.Path.{_≡_};
-ghost use mathlib.Core.Bool.{true};
-ghost use Prim.Native.Nat.{_+_, _<_, _≤_};
-ghost use lib.Dec.{eqb};
-ghost use Rattle.octets.specs.Choice.{pick};
-ghost use lib.ListN.{length};
-ghost use Rattle.table.specs.Limits.{headerSize, mostRecords, endOfReferences};
-ghost use Rattle.table.specs.Order.{isUsed};
-ghost use Rattle.table.specs.Table.{HasRecord, header};
-ghost use Rattle.host.specs.Step.{oneIf, storeIf, headerAfter, written};
+ghost use Prim.Native.Nat.{_+_, _≤_};
+ghost use Rattle.header.specs.Limits.{endOfReferences};
+ghost use Rattle.table.specs.Limits.{mostRecords};
+ghost use Rattle.table.specs.Table.{header};
+ghost use Rattle.host.specs.Step.{oneIf, dayAfter, storeIf, headerAfter, committed};
 
-// An order of state 0 says 'none', and nothing is stored.
+// An order of state 0 stands for none, and nothing is stored.
 fn store_if(table: &mut [u8], i: usize, o: Order)
-    requires { ⌜ (isUsed o ≡ true → HasRecord (now table) i) ⌝ }
     ensures { λ _. ⌜ now (table .exit) ≡ storeIf (now (table .entry)) i o ⌝ }
 {
     if is_used(o) {
@@ -27,13 +23,13 @@ fn store_if(table: &mut [u8], i: usize, o: Order)
 }
 
 // The day that begins, or the day as it is.
-fn begun(day: u8, begins: u8) -> u8
-    ensures { λ r. ⌜ r ≡ pick (eqb begins 0) day begins ⌝ }
+fn day_after(day: u8, begins: Begins) -> u8
+    ensures { λ r. ⌜ r ≡ dayAfter day begins ⌝ }
 {
-    if begins == 0 {
-        return day;
+    match begins {
+        Begins::Nothing => day,
+        Begins::Day(begun) => begun,
     }
-    begins
 }
 
 // One more record is used, or none.
@@ -64,9 +60,10 @@ fn header_after(h: Header, stamp: u64, plan: Plan) -> Header
     ensures { λ r. ⌜ r ≡ headerAfter h stamp plan ⌝ }
 {
     let added = plan.added;
+    let begins = plan.begins;
     let firms = h.firms;
     let threshold = h.threshold;
-    let day = begun(h.day, plan.begins);
+    let day = day_after(h.day, begins);
     let used = counted(h.used, is_used(added));
     let reference = numbered(h.reference, plan.numbered);
     Header {
@@ -81,10 +78,9 @@ fn header_after(h: Header, stamp: u64, plan: Plan) -> Header
 }
 
 // The named order in its own record, the added one behind the used records, and the header.
-pub fn commit(table: &mut [u8], h: Header, place: usize, stamp: u64, plan: Plan)
-    requires { ⌜ ((h ≡ header (now table)) × (headerSize ≤ length (now table))) × ((h .used ≤ mostRecords) × (h .reference ≤ endOfReferences)) ⌝ }
-    requires { ⌜ (isUsed (plan .changed) ≡ true → HasRecord (now table) place) × (isUsed (plan .added) ≡ true → HasRecord (now table) (h .used)) ⌝ }
-    ensures { λ _. ⌜ now (table .exit) ≡ written (now (table .entry)) place stamp plan ⌝ }
+pub(crate) fn commit(table: &mut [u8], h: Header, place: usize, stamp: u64, plan: Plan)
+    requires { ⌜ (h ≡ header (now table)) × ((h .used ≤ mostRecords) × (h .reference ≤ endOfReferences)) ⌝ }
+    ensures { λ _. ⌜ now (table .exit) ≡ committed (now (table .entry)) place stamp plan ⌝ }
 {
     let changed = plan.changed;
     let added = plan.added;

@@ -1,6 +1,8 @@
 // What an entry comes to, from the table and the entry alone: no function here is given the ring.
 use answers::Answer;
-use answers::number;
+use answers::is_done;
+use header::END_OF_REFERENCES;
+use header::Header;
 use market::cross::cross_done;
 use market::cross::late;
 use market::day::system;
@@ -8,6 +10,8 @@ use market::priority::priority;
 use market::taken::book_cancel;
 use market::taken::execution;
 use market::taken::self_match;
+use orders::order::Order;
+use orders::order::is_used;
 use rules::cancel::cancel;
 use rules::enter::enter;
 use rules::modify::modify;
@@ -16,9 +20,8 @@ use rules::plan::refused;
 use rules::replace::replace;
 use table::find::find;
 use table::find::order_from;
-use table::header::Header;
-use table::order::Order;
-use table::order::is_used;
+use table::places::records_in;
+use tape::kinds::Kind;
 use tape::kinds::kind_of;
 use tape::reading::book_cancel_of;
 use tape::reading::cancel_of;
@@ -31,19 +34,16 @@ use tape::reading::self_match_of;
 use tape::reading::system_of;
 ghost use mathlib.Core.Path.{_≡_};
 ghost use mathlib.Core.Bool.{true};
-ghost use Prim.Native.Nat.{_≤_};
 ghost use lib.ListN.{length};
-ghost use Rattle.table.specs.Limits.{headerSize};
-ghost use Rattle.table.specs.Table.{sound, header, orderNamed};
-ghost use Rattle.tape.specs.Entries.{kindOf, wellFormed, replaceOf};
-ghost use Rattle.rules.specs.Sane.{Sane};
+ghost use Rattle.table.specs.Table.{header, orderNamed};
+ghost use Rattle.tape.specs.Kinds.{kindOf};
+ghost use Rattle.tape.specs.Entries.{wellFormed, replaceOf};
 ghost use Rattle.rules.specs.Replace.{replaceRule};
-ghost use Rattle.host.specs.Step.{decide, decideMarket, withinLimits, Names, NamedAt};
+ghost use Rattle.host.specs.Step.{namedPlace, decideBy, decide, withinLimits};
 
-// What a legal entry in time comes to. `place` is where the order that it names stands.
-pub fn comes_to(table: &[u8], entry: &[u8], h: Header, place: usize) -> Decision
-    requires { ⌜ (sound (now table) ≡ true) × (wellFormed (now entry) ≡ true) ⌝ }
-    requires { ⌜ (h ≡ header (now table)) × NamedAt (now table) place (now entry) ⌝ }
+// What a legal entry in time comes to. `place` is where the order stands that it names.
+pub(crate) fn comes_to(table: &[u8], entry: &[u8], h: Header, place: usize) -> Decision
+    requires { ⌜ (wellFormed (now entry) ≡ true) × ((h ≡ header (now table)) × (place ≡ namedPlace (now table) (now entry))) ⌝ }
     ensures { λ r. ⌜ r ≡ withinLimits (now (table .entry)) (decide (now (table .entry)) (now (entry .entry))) ⌝ }
 {
     let named = order_from(table, place);
@@ -52,29 +52,28 @@ pub fn comes_to(table: &[u8], entry: &[u8], h: Header, place: usize) -> Decision
 
 // The rule of the entry's kind. `named` is the order that the entry names.
 fn decide(table: &[u8], entry: &[u8], h: Header, named: Order) -> Decision
-    requires { ⌜ (sound (now table) ≡ true) × (wellFormed (now entry) ≡ true) ⌝ }
-    requires { ⌜ (h ≡ header (now table)) × (Names (now table) named (now entry) × Sane named) ⌝ }
-    ensures { λ r. ⌜ r ≡ decide (now (table .entry)) (now (entry .entry)) ⌝ }
+    requires { ⌜ wellFormed (now entry) ≡ true ⌝ }
+    ensures { λ r. ⌜ r ≡ decideBy (kindOf (now (entry .entry))) h named (orderNamed (now (table .entry)) (replaceOf (now (entry .entry)) .replacement)) (now (entry .entry)) ⌝ }
 {
-    let kind = kind_of(entry);
-    if kind == b'O' {
-        return enter(h, named, enter_of(entry));
+    match kind_of(entry) {
+        Kind::Enters => enter(h, named, enter_of(entry)),
+        Kind::Replaces => decide_replace(table, entry, h, named),
+        Kind::Cancels => cancel(named, cancel_of(entry)),
+        Kind::Modifies => modify(h, named, modify_of(entry)),
+        Kind::Executes => execution(h, named, execution_of(entry)),
+        Kind::BookCancels => book_cancel(named, book_cancel_of(entry)),
+        Kind::SelfMatches => self_match(h, named, self_match_of(entry)),
+        Kind::Prioritises => priority(h, named, priority_of(entry)),
+        Kind::TurnsLate => late(h, named),
+        Kind::EndsCross => cross_done(named),
+        Kind::TellsDay => system(h, system_of(entry)),
+        Kind::Unknown => refused(Answer::Malformed),
     }
-    if kind == b'U' {
-        return decide_replace(table, entry, h, named);
-    }
-    if kind == b'X' {
-        return cancel(named, cancel_of(entry));
-    }
-    if kind == b'M' {
-        return modify(h, named, modify_of(entry));
-    }
-    decide_market(entry, h, named)
 }
 
 // A Replace names two tokens: the existing one and its own.
 fn decide_replace(table: &[u8], entry: &[u8], h: Header, named: Order) -> Decision
-    requires { ⌜ (sound (now table) ≡ true) × ((length (now entry) ≡ 55) × Sane named) ⌝ }
+    requires { ⌜ length (now entry) ≡ 55 ⌝ }
     ensures { λ r. ⌜ r ≡ replaceRule h named (orderNamed (now (table .entry)) (replaceOf (now (entry .entry)) .replacement)) (replaceOf (now (entry .entry))) ⌝ }
 {
     let e = replace_of(entry);
@@ -83,52 +82,16 @@ fn decide_replace(table: &[u8], entry: &[u8], h: Header, named: Order) -> Decisi
     replace(h, named, found, e)
 }
 
-// What the market, the book and the clock tell.
-fn decide_market(entry: &[u8], h: Header, named: Order) -> Decision
-    requires { ⌜ (wellFormed (now entry) ≡ true) × Sane named ⌝ }
-    ensures { λ r. ⌜ r ≡ decideMarket h named (now (entry .entry)) ⌝ }
-{
-    let kind = kind_of(entry);
-    if kind == b'e' {
-        return execution(h, named, execution_of(entry));
-    }
-    if kind == b'c' {
-        return book_cancel(named, book_cancel_of(entry));
-    }
-    if kind == b'q' {
-        return self_match(h, named, self_match_of(entry));
-    }
-    if kind == b'p' {
-        return priority(h, named, priority_of(entry));
-    }
-    if kind == b'l' {
-        return late(h, named);
-    }
-    if kind == b'f' {
-        return cross_done(named);
-    }
-    if kind == b's' {
-        return system(h, system_of(entry));
-    }
-    refused(Answer::Malformed)
-}
-
 // 8: a token must be stored and no record is free, or a reference is needed and none is left. Asked of the plan, so that no rule asks it.
 fn within_limits(table: &[u8], h: Header, d: Decision) -> Decision
-    requires { ⌜ (headerSize ≤ length (now table)) × (h ≡ header (now table)) ⌝ }
+    requires { ⌜ h ≡ header (now table) ⌝ }
     ensures { λ r. ⌜ r ≡ withinLimits (now (table .entry)) d ⌝ }
 {
     let answer = d.answer;
-    if number(answer) != 0 {
-        return d;
-    }
-    let plan = d.plan;
-    let added = plan.added;
-    let records = (table.len() - 64) / 80;
-    if is_used(added) & (records <= h.used as usize) {
-        return refused(Answer::Full);
-    }
-    if plan.numbered & (h.reference == 1_000_000_000_000_000_000) {
+    let added = d.plan.added;
+    let no_record = is_used(added) & (records_in(table) <= h.used as usize);
+    let no_reference = d.plan.numbered & (h.reference == END_OF_REFERENCES);
+    if is_done(answer) & (no_record | no_reference) {
         return refused(Answer::Full);
     }
     d

@@ -1,4 +1,4 @@
-// The host: one call that takes an entry to the table and its message to the outbox, and the theorems of the whole.
-pub mod commit;
-pub mod decide;
+// The host: one call that takes an entry to the table and its message to the outbox.
+mod commit;
+mod decide;
 pub mod step;

@@ -2,31 +2,33 @@
 use crate::commit::commit;
 use crate::decide::comes_to;
 use answers::Answer;
-use answers::number;
+use answers::is_done;
+use header::Header;
+use notices::message;
 use outbox::marks::Marks;
 use outbox::marks::ring_good;
 use outbox::put::append;
 use rules::plan::Decision;
-use rules::sent::message;
+use rules::plan::Plan;
 use table::find::find;
-use table::header::Header;
 use table::places::header;
 use table::places::used;
 use table::sound::sound;
 use tape::judging::judge;
-use tape::kinds::kind_of;
+use tape::reading::names_order;
 use tape::reading::stamp_of;
 use tape::reading::token_of;
 ghost use mathlib.Core.Path.{_≡_};
 ghost use mathlib.Core.Bool.{true};
 ghost use Prim.Native.Nat.{_≤_};
 ghost use lib.ListN.{length, take};
-ghost use Rattle.answers.specs.Answer.{isDone};
 ghost use Rattle.answers.specs.declared.Answer.the-variants.{Done};
+ghost use Rattle.header.specs.Limits.{endOfReferences};
 ghost use Rattle.outbox.specs.Outbox.{ringGood, freeBytes, ringWith, marksWith};
-ghost use Rattle.table.specs.Table.{sound};
+ghost use Rattle.table.specs.Limits.{mostRecords};
+ghost use Rattle.table.specs.Table.{sound, header};
 ghost use Rattle.tape.specs.Entries.{entryAnswer};
-ghost use Rattle.host.specs.Step.{step, offer, settle, Writable, NamedAt, world, Leaves};
+ghost use Rattle.host.specs.Step.{step, offer, settle, carriedOut, namedPlace, world, Leaves};
 
 // What a step answers, with the marks after it.
 pub struct Stepped {
@@ -59,13 +61,13 @@ pub fn offer(table: &mut [u8], ring: &mut [u8], marks: Marks, entry: &[u8]) -> S
     ensures { λ r. ⌜ Leaves (offer (world (now (table .entry)) (now (ring .entry)) marks) (now (entry .entry))) (r .answer) (r .marks) (now (table .exit)) (now (ring .exit)) ⌝ }
 {
     let fault = judge(entry);
-    if number(fault) != 0 {
-        return Stepped {
-            answer: fault,
-            marks,
-        };
+    if is_done(fault) {
+        return take(table, ring, marks, entry);
     }
-    take(table, ring, marks, entry)
+    Stepped {
+        answer: fault,
+        marks,
+    }
 }
 
 // A legal entry: in time or not, and then what it comes to.
@@ -74,53 +76,66 @@ fn take(table: &mut [u8], ring: &mut [u8], marks: Marks, entry: &[u8]) -> Steppe
     ensures { λ r. ⌜ Leaves (offer (world (now (table .entry)) (now (ring .entry)) marks) (now (entry .entry))) (r .answer) (r .marks) (now (table .exit)) (now (ring .exit)) ⌝ }
 {
     let h = header(table);
-    if stamp_of(entry) < h.last {
+    let stamp = stamp_of(entry);
+    if stamp < h.last {
         return Stepped {
             answer: Answer::TooEarly,
             marks,
         };
     }
-    let place = place_named(table, entry);
+    let place = named_place(table, entry);
     let d = comes_to(table, entry, h, place);
-    settle(table, ring, marks, entry, h, place, d)
+    settle(table, ring, marks, h, place, stamp, d)
 }
 
-// Where the order that the entry names stands; behind the used records for the system's entries, which name none.
-fn place_named(table: &[u8], entry: &[u8]) -> usize
-    requires { ⌜ (sound (now table) ≡ true) × (entryAnswer (now entry) ≡ Done) ⌝ }
-    ensures { λ r. ⌜ NamedAt (now (table .entry)) r (now (entry .entry)) ⌝ }
+// Where the order stands that the entry names; behind the used records for the system's entries, which name none.
+fn named_place(table: &[u8], entry: &[u8]) -> usize
+    ensures { λ r. ⌜ r ≡ namedPlace (now (table .entry)) (now (entry .entry)) ⌝ }
 {
-    if kind_of(entry) == b's' {
-        return used(table);
+    if names_order(entry) {
+        return find(table, token_of(entry));
     }
-    find(table, token_of(entry))
+    used(table)
 }
 
-// The one place where room is asked for. What follows the question is all writing.
+// What was refused changes nothing.
 fn settle(
     table: &mut [u8],
     ring: &mut [u8],
     marks: Marks,
-    entry: &[u8],
     h: Header,
     place: usize,
+    stamp: u64,
     d: Decision,
 ) -> Stepped
-    requires { ⌜ (ringGood (length (now ring)) marks ≡ true) × (9 ≤ length (now entry)) ⌝ }
-    requires { ⌜ (isDone (d .answer) ≡ true → Writable (now table) h place (now entry) (d .plan)) ⌝ }
-    ensures { λ r. ⌜ Leaves (settle (world (now (table .entry)) (now (ring .entry)) marks) (now (entry .entry)) d) (r .answer) (r .marks) (now (table .exit)) (now (ring .exit)) ⌝ }
+    requires { ⌜ (ringGood (length (now ring)) marks ≡ true) × ((h ≡ header (now table)) × ((h .used ≤ mostRecords) × (h .reference ≤ endOfReferences))) ⌝ }
+    ensures { λ r. ⌜ Leaves (settle (world (now (table .entry)) (now (ring .entry)) marks) place stamp d) (r .answer) (r .marks) (now (table .exit)) (now (ring .exit)) ⌝ }
 {
     let answer = d.answer;
-    if number(answer) != 0 {
-        return Stepped { answer, marks };
+    if is_done(answer) {
+        let plan = d.plan;
+        return carry_out(table, ring, marks, h, place, stamp, plan);
     }
-    let plan = d.plan;
-    let stamp = stamp_of(entry);
+    Stepped { answer, marks }
+}
+
+// The one place where room is asked for. What follows the question is all writing.
+fn carry_out(
+    table: &mut [u8],
+    ring: &mut [u8],
+    marks: Marks,
+    h: Header,
+    place: usize,
+    stamp: u64,
+    plan: Plan,
+) -> Stepped
+    requires { ⌜ (ringGood (length (now ring)) marks ≡ true) × ((h ≡ header (now table)) × ((h .used ≤ mostRecords) × (h .reference ≤ endOfReferences))) ⌝ }
+    ensures { λ r. ⌜ Leaves (carriedOut (world (now (table .entry)) (now (ring .entry)) marks) place stamp plan) (r .answer) (r .marks) (now (table .exit)) (now (ring .exit)) ⌝ }
+{
     let sent = message(stamp, plan);
     let bytes = sent.bytes;
     let len = sent.len;
-    let held = marks.held;
-    if ring.len() - held < len {
+    if ring.len() - marks.held < len {
         return Stepped {
             answer: Answer::Blocked,
             marks,

@@ -1,6 +1,6 @@
 -- Everything that specs/ defines, open at once, for proofs by computation. Assumes nothing.
-use Rattle.inbound.specs.Inbound.{enterOrderOf, enterOrderBytes, readEnterOrder, replaceOrderOf, replaceOrderBytes, readReplaceOrder, cancelOrderOf, cancelOrderBytes, readCancelOrder, modifyOrderOf, modifyOrderBytes, readModifyOrder}
+use Rattle.inbound.specs.Inbound.{enterOrderOf, enterOrderBytes, replaceOrderOf, replaceOrderBytes, cancelOrderOf, cancelOrderBytes, modifyOrderOf, modifyOrderBytes}
 
 unfoldable pub opened : Unit {0}
-unfolding enterOrderOf enterOrderBytes readEnterOrder replaceOrderOf replaceOrderBytes readReplaceOrder cancelOrderOf cancelOrderBytes readCancelOrder modifyOrderOf modifyOrderBytes readModifyOrder
+unfolding enterOrderOf enterOrderBytes replaceOrderOf replaceOrderBytes cancelOrderOf cancelOrderBytes modifyOrderOf modifyOrderBytes
 opened = tt

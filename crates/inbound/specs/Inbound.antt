@@ -4,7 +4,7 @@ use Prim.Native.Nat.{ℕ}
 use mathlib.Core.List.{List}
 use Rattle.wire.specs.Layout.{Values, _&_, FromFields, reading, spell}
 use Rattle.wire.specs.Messages.{enterOrder, replaceOrder, cancelOrder, modifyOrder, readAnswer, legalOrZeros}
-use Rattle.wire.specs.Shares.{total}
+use Rattle.wire.specs.Shares.{total, removed}
 pub use Rattle.inbound.specs.declared.enter_order.EnterOrder.{EnterOrder}
 pub use Rattle.inbound.specs.declared.enter_order.EnterOrderRead.{EnterOrderRead}
 pub use Rattle.inbound.specs.declared.replace_order.ReplaceOrder.{ReplaceOrder}
@@ -28,7 +28,7 @@ enterOrderMade token side shares stock price time firm display capacity sweep mi
   display = display;
   capacity = capacity;
   sweep = sweep;
-  minimum = minimum;
+  minimum = removed minimum;
   cross = cross;
 }
 
@@ -38,12 +38,12 @@ enterOrderOf s = reading (enterOrder .fields) s enterOrderMade
 abbrev pub enterOrderValues : EnterOrder → Values (enterOrder .fields)
 enterOrderValues m =
     m .token & m .side & m .shares .0 & m .stock & m .price & m .time & m .firm & m .display & m .capacity &
-    m .sweep & m .minimum & m .cross & tt
+    m .sweep & m .minimum .0 & m .cross & tt
 
 unfoldable pub enterOrderBytes : EnterOrder → List ℕ
 enterOrderBytes m = spell enterOrder (enterOrderValues m)
 
-unfoldable pub readEnterOrder : List ℕ → EnterOrderRead
+abbrev pub readEnterOrder : List ℕ → EnterOrderRead
 readEnterOrder s = record { answer = readAnswer enterOrder s; body = enterOrderOf (legalOrZeros enterOrder s) }
 
 -- ---- Replace Order
@@ -57,19 +57,19 @@ replaceOrderMade existing replacement shares price time display sweep minimum = 
   time = time;
   display = display;
   sweep = sweep;
-  minimum = minimum;
+  minimum = removed minimum;
 }
 
 unfoldable pub replaceOrderOf : List ℕ → ReplaceOrder
 replaceOrderOf s = reading (replaceOrder .fields) s replaceOrderMade
 
 abbrev pub replaceOrderValues : ReplaceOrder → Values (replaceOrder .fields)
-replaceOrderValues m = m .existing & m .replacement & m .shares .0 & m .price & m .time & m .display & m .sweep & m .minimum & tt
+replaceOrderValues m = m .existing & m .replacement & m .shares .0 & m .price & m .time & m .display & m .sweep & m .minimum .0 & tt
 
 unfoldable pub replaceOrderBytes : ReplaceOrder → List ℕ
 replaceOrderBytes m = spell replaceOrder (replaceOrderValues m)
 
-unfoldable pub readReplaceOrder : List ℕ → ReplaceOrderRead
+abbrev pub readReplaceOrder : List ℕ → ReplaceOrderRead
 readReplaceOrder s = record { answer = readAnswer replaceOrder s; body = replaceOrderOf (legalOrZeros replaceOrder s) }
 
 -- ---- Cancel Order
@@ -89,7 +89,7 @@ cancelOrderValues m = m .token & m .size .0 & tt
 unfoldable pub cancelOrderBytes : CancelOrder → List ℕ
 cancelOrderBytes m = spell cancelOrder (cancelOrderValues m)
 
-unfoldable pub readCancelOrder : List ℕ → CancelOrderRead
+abbrev pub readCancelOrder : List ℕ → CancelOrderRead
 readCancelOrder s = record { answer = readAnswer cancelOrder s; body = cancelOrderOf (legalOrZeros cancelOrder s) }
 
 -- ---- Modify Order
@@ -110,5 +110,5 @@ modifyOrderValues m = m .token & m .side & m .shares .0 & tt
 unfoldable pub modifyOrderBytes : ModifyOrder → List ℕ
 modifyOrderBytes m = spell modifyOrder (modifyOrderValues m)
 
-unfoldable pub readModifyOrder : List ℕ → ModifyOrderRead
+abbrev pub readModifyOrder : List ℕ → ModifyOrderRead
 readModifyOrder s = record { answer = readAnswer modifyOrder s; body = modifyOrderOf (legalOrZeros modifyOrder s) }

@@ -1,16 +1,16 @@
 // Cancel Order (X, 19 bytes): cuts an order down to an intended size, which is a total.
 use answers::Answer;
+use wire::frame::legal_or_zeros;
 use wire::frame::send;
-use wire::frame::taken;
 use wire::judge::judge;
 use wire::messages::CANCEL_ORDER;
 use wire::shares::Total;
 use wire::spelling::put_integer;
-use wire::spelling::put_letter;
 use wire::spelling::put_token;
+use wire::spelling::started;
 ghost use mathlib.Core.Path.{_≡_};
-ghost use lib.ListN.{length, take};
-ghost use Rattle.wire.specs.Messages.{cancelOrder, writeAnswer, written};
+ghost use lib.ListN.{length};
+ghost use Rattle.wire.specs.Messages.{cancelOrder, writeAnswer, bufferAfter};
 ghost use Rattle.inbound.specs.Inbound.{cancelOrderOf, cancelOrderBytes, readCancelOrder};
 
 pub struct CancelOrder {
@@ -33,29 +33,21 @@ pub fn parse_cancel_order(s: &[u8]) -> CancelOrder
     }
 }
 
-pub fn spell_cancel_order(m: CancelOrder) -> [u8; 80]
-    ensures { λ r. ⌜ (take 19 r ≡ cancelOrderBytes m) × (length (cancelOrderBytes m) ≡ 19) ⌝ }
-{
-    let token = m.token;
-    let mut t = [0u8; 80];
-    put_letter(&mut t, 0, b'X');
-    put_token(&mut t, 1, token);
-    put_integer(&mut t, 15, m.size.0);
-    t
-}
-
 pub fn read_cancel_order(s: &[u8]) -> CancelOrderRead
     ensures { λ r. ⌜ r ≡ readCancelOrder (now (s .entry)) ⌝ }
 {
     let answer = judge(s, CANCEL_ORDER);
     let zeros = [0u8; 19];
-    let body = parse_cancel_order(taken(answer, s, &zeros));
+    let body = parse_cancel_order(legal_or_zeros(answer, s, &zeros, CANCEL_ORDER));
     CancelOrderRead { answer, body }
 }
 
 pub fn write_cancel_order(buffer: &mut [u8], m: CancelOrder) -> Answer
-    ensures { λ r. ⌜ (r ≡ writeAnswer cancelOrder (cancelOrderBytes m) (now (buffer .entry))) × (now (buffer .exit) ≡ written cancelOrder (cancelOrderBytes m) (now (buffer .entry))) ⌝ }
+    ensures { λ r. ⌜ (r ≡ writeAnswer cancelOrder (cancelOrderBytes m) (now (buffer .entry))) × (now (buffer .exit) ≡ bufferAfter cancelOrder (cancelOrderBytes m) (now (buffer .entry))) ⌝ }
 {
-    let spelled = spell_cancel_order(m);
-    send(buffer, &spelled, CANCEL_ORDER)
+    let token = m.token;
+    let mut t = started(b'X');
+    put_token(&mut t, 1, token);
+    put_integer(&mut t, 15, m.size.0);
+    send(buffer, t, CANCEL_ORDER)
 }

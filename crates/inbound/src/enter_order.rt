@@ -1,18 +1,20 @@
 // Enter Order (O, 48 bytes): enters an order.
 use answers::Answer;
+use wire::frame::legal_or_zeros;
 use wire::frame::send;
-use wire::frame::taken;
 use wire::judge::judge;
 use wire::messages::ENTER_ORDER;
+use wire::shares::Removed;
 use wire::shares::Total;
 use wire::spelling::put_firm;
 use wire::spelling::put_integer;
 use wire::spelling::put_letter;
 use wire::spelling::put_stock;
 use wire::spelling::put_token;
+use wire::spelling::started;
 ghost use mathlib.Core.Path.{_≡_};
-ghost use lib.ListN.{length, take};
-ghost use Rattle.wire.specs.Messages.{enterOrder, writeAnswer, written};
+ghost use lib.ListN.{length};
+ghost use Rattle.wire.specs.Messages.{enterOrder, writeAnswer, bufferAfter};
 ghost use Rattle.inbound.specs.Inbound.{enterOrderOf, enterOrderBytes, readEnterOrder};
 
 pub struct EnterOrder {
@@ -26,7 +28,7 @@ pub struct EnterOrder {
     pub display: u8,
     pub capacity: u8,
     pub sweep: u8,
-    pub minimum: u32,
+    pub minimum: Removed,
     pub cross: u8,
 }
 
@@ -50,19 +52,27 @@ pub fn parse_enter_order(s: &[u8]) -> EnterOrder
         display: octets::byte_at(s, 40),
         capacity: octets::byte_at(s, 41),
         sweep: octets::byte_at(s, 42),
-        minimum: octets::be32(s, 43),
+        minimum: Removed(octets::be32(s, 43)),
         cross: octets::byte_at(s, 47),
     }
 }
 
-pub fn spell_enter_order(m: EnterOrder) -> [u8; 80]
-    ensures { λ r. ⌜ (take 48 r ≡ enterOrderBytes m) × (length (enterOrderBytes m) ≡ 48) ⌝ }
+pub fn read_enter_order(s: &[u8]) -> EnterOrderRead
+    ensures { λ r. ⌜ r ≡ readEnterOrder (now (s .entry)) ⌝ }
+{
+    let answer = judge(s, ENTER_ORDER);
+    let zeros = [0u8; 48];
+    let body = parse_enter_order(legal_or_zeros(answer, s, &zeros, ENTER_ORDER));
+    EnterOrderRead { answer, body }
+}
+
+pub fn write_enter_order(buffer: &mut [u8], m: EnterOrder) -> Answer
+    ensures { λ r. ⌜ (r ≡ writeAnswer enterOrder (enterOrderBytes m) (now (buffer .entry))) × (now (buffer .exit) ≡ bufferAfter enterOrder (enterOrderBytes m) (now (buffer .entry))) ⌝ }
 {
     let token = m.token;
     let stock = m.stock;
     let firm = m.firm;
-    let mut t = [0u8; 80];
-    put_letter(&mut t, 0, b'O');
+    let mut t = started(b'O');
     put_token(&mut t, 1, token);
     put_letter(&mut t, 15, m.side);
     put_integer(&mut t, 16, m.shares.0);
@@ -73,23 +83,7 @@ pub fn spell_enter_order(m: EnterOrder) -> [u8; 80]
     put_letter(&mut t, 40, m.display);
     put_letter(&mut t, 41, m.capacity);
     put_letter(&mut t, 42, m.sweep);
-    put_integer(&mut t, 43, m.minimum);
+    put_integer(&mut t, 43, m.minimum.0);
     put_letter(&mut t, 47, m.cross);
-    t
-}
-
-pub fn read_enter_order(s: &[u8]) -> EnterOrderRead
-    ensures { λ r. ⌜ r ≡ readEnterOrder (now (s .entry)) ⌝ }
-{
-    let answer = judge(s, ENTER_ORDER);
-    let zeros = [0u8; 48];
-    let body = parse_enter_order(taken(answer, s, &zeros));
-    EnterOrderRead { answer, body }
-}
-
-pub fn write_enter_order(buffer: &mut [u8], m: EnterOrder) -> Answer
-    ensures { λ r. ⌜ (r ≡ writeAnswer enterOrder (enterOrderBytes m) (now (buffer .entry))) × (now (buffer .exit) ≡ written enterOrder (enterOrderBytes m) (now (buffer .entry))) ⌝ }
-{
-    let spelled = spell_enter_order(m);
-    send(buffer, &spelled, ENTER_ORDER)
+    send(buffer, t, ENTER_ORDER)
 }

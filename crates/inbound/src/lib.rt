@@ -1,8 +1,7 @@
-// The four messages that a client sends: a struct each, and four functions over it.
+// The four messages that a client sends: a struct each, and three functions over it.
 //
-// `read_` and `write_` take every input: they judge first, and their answers are the paper's. `parse_` and `spell_` are the steps behind them
-// for callers that have judged already: `parse_` takes the fields from bytes of the message's length and does not look at the type, `spell_`
-// puts the fields into the front of eighty bytes.
+// `read_` and `write_` take every input: they judge first, and their answers are the paper's. `parse_` is the step behind `read_` for a caller
+// that has judged already: it takes the fields from bytes of the message's length and does not look at the type.
 pub mod cancel_order;
 pub mod enter_order;
 pub mod modify_order;

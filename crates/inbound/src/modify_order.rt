@@ -1,16 +1,17 @@
 // Modify Order (M, 20 bytes): changes the side of an order or cuts its shares.
 use answers::Answer;
+use wire::frame::legal_or_zeros;
 use wire::frame::send;
-use wire::frame::taken;
 use wire::judge::judge;
 use wire::messages::MODIFY_ORDER;
 use wire::shares::Total;
 use wire::spelling::put_integer;
 use wire::spelling::put_letter;
 use wire::spelling::put_token;
+use wire::spelling::started;
 ghost use mathlib.Core.Path.{_≡_};
-ghost use lib.ListN.{length, take};
-ghost use Rattle.wire.specs.Messages.{modifyOrder, writeAnswer, written};
+ghost use lib.ListN.{length};
+ghost use Rattle.wire.specs.Messages.{modifyOrder, writeAnswer, bufferAfter};
 ghost use Rattle.inbound.specs.Inbound.{modifyOrderOf, modifyOrderBytes, readModifyOrder};
 
 pub struct ModifyOrder {
@@ -35,30 +36,22 @@ pub fn parse_modify_order(s: &[u8]) -> ModifyOrder
     }
 }
 
-pub fn spell_modify_order(m: ModifyOrder) -> [u8; 80]
-    ensures { λ r. ⌜ (take 20 r ≡ modifyOrderBytes m) × (length (modifyOrderBytes m) ≡ 20) ⌝ }
-{
-    let token = m.token;
-    let mut t = [0u8; 80];
-    put_letter(&mut t, 0, b'M');
-    put_token(&mut t, 1, token);
-    put_letter(&mut t, 15, m.side);
-    put_integer(&mut t, 16, m.shares.0);
-    t
-}
-
 pub fn read_modify_order(s: &[u8]) -> ModifyOrderRead
     ensures { λ r. ⌜ r ≡ readModifyOrder (now (s .entry)) ⌝ }
 {
     let answer = judge(s, MODIFY_ORDER);
     let zeros = [0u8; 20];
-    let body = parse_modify_order(taken(answer, s, &zeros));
+    let body = parse_modify_order(legal_or_zeros(answer, s, &zeros, MODIFY_ORDER));
     ModifyOrderRead { answer, body }
 }
 
 pub fn write_modify_order(buffer: &mut [u8], m: ModifyOrder) -> Answer
-    ensures { λ r. ⌜ (r ≡ writeAnswer modifyOrder (modifyOrderBytes m) (now (buffer .entry))) × (now (buffer .exit) ≡ written modifyOrder (modifyOrderBytes m) (now (buffer .entry))) ⌝ }
+    ensures { λ r. ⌜ (r ≡ writeAnswer modifyOrder (modifyOrderBytes m) (now (buffer .entry))) × (now (buffer .exit) ≡ bufferAfter modifyOrder (modifyOrderBytes m) (now (buffer .entry))) ⌝ }
 {
-    let spelled = spell_modify_order(m);
-    send(buffer, &spelled, MODIFY_ORDER)
+    let token = m.token;
+    let mut t = started(b'M');
+    put_token(&mut t, 1, token);
+    put_letter(&mut t, 15, m.side);
+    put_integer(&mut t, 16, m.shares.0);
+    send(buffer, t, MODIFY_ORDER)
 }

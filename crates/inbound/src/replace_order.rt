@@ -1,16 +1,18 @@
 // Replace Order (U, 47 bytes): replaces a live order by another under a new token.
 use answers::Answer;
+use wire::frame::legal_or_zeros;
 use wire::frame::send;
-use wire::frame::taken;
 use wire::judge::judge;
 use wire::messages::REPLACE_ORDER;
+use wire::shares::Removed;
 use wire::shares::Total;
 use wire::spelling::put_integer;
 use wire::spelling::put_letter;
 use wire::spelling::put_token;
+use wire::spelling::started;
 ghost use mathlib.Core.Path.{_≡_};
-ghost use lib.ListN.{length, take};
-ghost use Rattle.wire.specs.Messages.{replaceOrder, writeAnswer, written};
+ghost use lib.ListN.{length};
+ghost use Rattle.wire.specs.Messages.{replaceOrder, writeAnswer, bufferAfter};
 ghost use Rattle.inbound.specs.Inbound.{replaceOrderOf, replaceOrderBytes, readReplaceOrder};
 
 pub struct ReplaceOrder {
@@ -21,7 +23,7 @@ pub struct ReplaceOrder {
     pub time: u32,
     pub display: u8,
     pub sweep: u8,
-    pub minimum: u32,
+    pub minimum: Removed,
 }
 
 pub struct ReplaceOrderRead {
@@ -41,26 +43,8 @@ pub fn parse_replace_order(s: &[u8]) -> ReplaceOrder
         time: octets::be32(s, 37),
         display: octets::byte_at(s, 41),
         sweep: octets::byte_at(s, 42),
-        minimum: octets::be32(s, 43),
+        minimum: Removed(octets::be32(s, 43)),
     }
-}
-
-pub fn spell_replace_order(m: ReplaceOrder) -> [u8; 80]
-    ensures { λ r. ⌜ (take 47 r ≡ replaceOrderBytes m) × (length (replaceOrderBytes m) ≡ 47) ⌝ }
-{
-    let existing = m.existing;
-    let replacement = m.replacement;
-    let mut t = [0u8; 80];
-    put_letter(&mut t, 0, b'U');
-    put_token(&mut t, 1, existing);
-    put_token(&mut t, 15, replacement);
-    put_integer(&mut t, 29, m.shares.0);
-    put_integer(&mut t, 33, m.price);
-    put_integer(&mut t, 37, m.time);
-    put_letter(&mut t, 41, m.display);
-    put_letter(&mut t, 42, m.sweep);
-    put_integer(&mut t, 43, m.minimum);
-    t
 }
 
 pub fn read_replace_order(s: &[u8]) -> ReplaceOrderRead
@@ -68,13 +52,23 @@ pub fn read_replace_order(s: &[u8]) -> ReplaceOrderRead
 {
     let answer = judge(s, REPLACE_ORDER);
     let zeros = [0u8; 47];
-    let body = parse_replace_order(taken(answer, s, &zeros));
+    let body = parse_replace_order(legal_or_zeros(answer, s, &zeros, REPLACE_ORDER));
     ReplaceOrderRead { answer, body }
 }
 
 pub fn write_replace_order(buffer: &mut [u8], m: ReplaceOrder) -> Answer
-    ensures { λ r. ⌜ (r ≡ writeAnswer replaceOrder (replaceOrderBytes m) (now (buffer .entry))) × (now (buffer .exit) ≡ written replaceOrder (replaceOrderBytes m) (now (buffer .entry))) ⌝ }
+    ensures { λ r. ⌜ (r ≡ writeAnswer replaceOrder (replaceOrderBytes m) (now (buffer .entry))) × (now (buffer .exit) ≡ bufferAfter replaceOrder (replaceOrderBytes m) (now (buffer .entry))) ⌝ }
 {
-    let spelled = spell_replace_order(m);
-    send(buffer, &spelled, REPLACE_ORDER)
+    let existing = m.existing;
+    let replacement = m.replacement;
+    let mut t = started(b'U');
+    put_token(&mut t, 1, existing);
+    put_token(&mut t, 15, replacement);
+    put_integer(&mut t, 29, m.shares.0);
+    put_integer(&mut t, 33, m.price);
+    put_integer(&mut t, 37, m.time);
+    put_letter(&mut t, 41, m.display);
+    put_letter(&mut t, 42, m.sweep);
+    put_integer(&mut t, 43, m.minimum.0);
+    send(buffer, t, REPLACE_ORDER)
 }

@@ -1,14 +1,8 @@
 -- The fewest decimal digits that hold a number are counted by dividing it by ten until it is a digit. Assumes nothing.
-use Prim.Native.Nat.{ℕ, zero, suc, _+_, _*_, _-_, _/_, _^_, _≤_, _<_}
-use mathlib.Core.Path.{_≡_, refl, sym, ap, subst, _∙_}
-use mathlib.Core.Bool.{Bool, true, false}
-use native.Mathlib.Nat.{pow-suc, pow-le-pow-right, le-div-iff-mul-le, div-lt-iff-lt-mul, not-suc-le-zero}
-use native.Mathlib.Omega.{arith}
-use lib.Dec.{lit<, leb}
-use lib.ListN.{length, length-append}
-use borrow.Author.Tests.{lt-ltb, le-ltb, leb-true, leb-false}
+use Rattle.octets.proofs.Proving.{Bool, _*_, _+_, _-_, _/_, _<_, _^_, _∙_, _≡_, _≤_, ap, arith, div-lt-iff-lt-mul, false, le-div-iff-mul-le, le-ltb, leb, leb-false, leb-true, length, length-append, lit<, lt-ltb, not-suc-le-zero, pow-le-pow-right, pow-suc, refl, subst, suc, sym, true, zero, ℕ}
 use Rattle.io.specs.Digits.{digits, Fewest}
 use Rattle.listing.specs.Lines.{placesWithin, decimal}
+use Rattle.listing.specs.Drawing.{cells}
 
 -- what takes one digit more than suc j is at least the lowest number that does
 least : (n j : ℕ) → Fewest 10 1 n (suc (suc j)) → 10 ^ j * 10 ≤ n
@@ -64,3 +58,8 @@ decimal-text n k h f = ap (λ (m : ℕ). digits 10 m n) (fewest-places 19 n k h 
 
 pub decimal-long : (n k : ℕ) → k ≤ 20 → Fewest 10 1 n k → length (decimal n) ≡ k
 decimal-long n k h f = ap length (sym (decimal-text n k h f)) ∙ length-digits 10 k n
+
+pub length-cells : (size at held k : ℕ) → length (cells size at held k) ≡ k
+unfolding cells
+length-cells size at held zero = refl
+length-cells size at held (suc k) = length-append (cells size at held k) _ ∙ ap (λ (m : ℕ). m + 1) (length-cells size at held k) ∙ omega arith

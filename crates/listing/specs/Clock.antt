@@ -8,6 +8,10 @@ use Rattle.io.specs.Digits.{digits}
 abbrev pub nineDigits : ℕ → List ℕ
 nineDigits n = digits 10 9 n
 
+-- what stands behind a price's point: its last four digits
+abbrev pub fourDigits : ℕ → List ℕ
+fourDigits n = digits 10 4 n
+
 -- hh:mm:ss.nnnnnnnnn
 unfoldable pub clock : ℕ → List ℕ
 clock stamp =

@@ -1,5 +1,5 @@
 -- The listing's lines (Worked numbers: 'prints exactly'): fixed words, and numbers between them.
-use Prim.Native.Nat.{ℕ, zero, suc, _/_, _≤_}
+use Prim.Native.Nat.{ℕ, zero, suc, _+_, _/_, _≤_}
 use Prim.Native.Char.{code}
 use mathlib.Core.Path.{_≡_}
 use mathlib.Core.List.{List, [], _∷_, _++_}
@@ -28,10 +28,36 @@ newline = code "\n"
 abbrev pub spaced : List ℕ → List ℕ
 spaced word = space ∷ word ++ (space ∷ [])
 
+-- ---- a line that grows
+
+abbrev pub width : ℕ
+width = 144
+
+-- n bytes more have room
+abbrev pub Fits : Shown → ℕ → Type 0
+Fits shown n = (shown .len + n ≤ width) × (length (shown .bytes) ≡ width)
+
+-- the words stand behind what was there
+pub record Adds (before : Shown) (words : List ℕ) (after : Shown) : Type 0 where
+  pub spelled : take (after .len) (after .bytes) ≡ take (before .len) (before .bytes) ++ words
+  pub longer : after .len ≡ before .len + length words
+  pub wide : length (after .bytes) ≡ width
+
+-- the text stands in front, and all of it is there
+pub record Says (shown : Shown) (text : List ℕ) : Type 0 where
+  pub spelled : take (shown .len) (shown .bytes) ≡ text
+  pub long : shown .len ≡ length text
+  pub wide : length (shown .bytes) ≡ width
+
+-- ---- the lines
+
+abbrev pub inHex : ℕ → List ℕ
+inHex kind = spaced (digits 16 2 kind)
+
 -- 'entry number, kind in hex, answer, type sent or a dash'
 unfoldable pub line : ℕ → ℕ → ℕ → ℕ → List ℕ
 line number kind answer sent =
-    joined (decimal number ∷ spaced (digits 16 2 kind) ∷ decimal answer ∷ (space ∷ sent ∷ newline ∷ []) ∷ [])
+    joined (decimal number ∷ inHex kind ∷ decimal answer ∷ (space ∷ sent ∷ newline ∷ []) ∷ [])
 
 -- 'type sent or a dash', of the bytes that were sent
 unfoldable pub typeShown : List ℕ → ℕ

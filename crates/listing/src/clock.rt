@@ -5,7 +5,7 @@ ghost use Rattle.io.specs.Digits.{glyph};
 ghost use Rattle.listing.specs.Clock.{clock, nineDigits};
 
 // The last decimal digit.
-fn digit(n: u64) -> u8
+pub(crate) fn digit(n: u64) -> u8
     ensures { λ r. ⌜ r ≡ glyph (n % 10) ⌝ }
 {
     b'0' + (n % 10) as u8

@@ -1,4 +1,6 @@
-// The listing of a tape as bytes: its fixed words and its lines. Programs write what this library spells.
+// The listing of a tape as bytes: its fixed words, its lines, and the drawing of a ring. Programs write what this library spells.
 pub mod clock;
+pub mod drawing;
 pub mod lines;
-pub mod numbers;
+pub mod price;
+mod text;

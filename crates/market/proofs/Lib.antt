@@ -1,3 +1,2 @@
-pub mod Opened
 pub mod Room
-pub mod Keeps
+pub mod Unique

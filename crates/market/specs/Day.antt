@@ -3,9 +3,9 @@ use mathlib.Core.Bool.{_&&_}
 use lib.Dec.{eqb}
 use Rattle.octets.specs.Choice.{firstOf_, _⇒_⨾_}
 use Rattle.wire.specs.Letters.{startOfDay, endOfDay}
-use Rattle.table.specs.Limits.{dayBefore, dayOpen, dayClosed}
-use Rattle.rules.specs.Plan.{wrongMoment, beginning}
-use Rattle.market.specs.Types.{Decision, Header, System}
+use Rattle.header.specs.Limits.{dayBefore, dayOpen, dayClosed}
+use Rattle.rules.specs.Plan.{refused, beginning}
+use Rattle.market.specs.Types.{WrongMoment, Decision, Header, System}
 
 -- System Event, sets day: S unless day 0, E unless day 1 is the wrong moment
 unfoldable pub systemRule : Header → System → Decision
@@ -13,4 +13,4 @@ systemRule h e =
     firstOf
     eqb (e .event) startOfDay && eqb (h .day) dayBefore ⇒ beginning dayOpen (e .event)
     ⨾ eqb (e .event) endOfDay && eqb (h .day) dayOpen ⇒ beginning dayClosed (e .event)
-    ⨾ wrongMoment
+    ⨾ refused WrongMoment

@@ -1,4 +1,5 @@
 pub mod Types
+pub mod Guards
 pub mod Taken
 pub mod Priority
 pub mod Cross

@@ -1,10 +1,10 @@
--- p: an order gets another price, and with it another reference (What each entry does, p; Answer numbers 5, 7).
-use mathlib.Core.Bool.{not}
-use Rattle.octets.specs.Choice.{firstOf_, _⇒_⨾_}
+-- p: an order gets another price, and with it another reference (What each entry does, p).
+use mathlib.Core.Bool.{true}
 use Rattle.wire.specs.Letters.{anonymous}
-use Rattle.table.specs.Order.{isLive, withDetails}
-use Rattle.table.specs.Header.{isOpenDay}
-use Rattle.rules.specs.Plan.{notLive, wrongMoment, renumbering}
+use Rattle.orders.specs.Order.{withDetails}
+use Rattle.header.specs.Header.{isOpenDay}
+use Rattle.rules.specs.Plan.{allowed, renumbering}
+use Rattle.market.specs.Guards.{marketAnswer}
 use Rattle.market.specs.Types.{PriorityUpdate, Decision, Order, Header, Priority}
 
 -- price stored, display Y, new reference
@@ -23,7 +23,5 @@ prioritisedOrder h o e =
 -- Priority Update
 unfoldable pub priorityRule : Header → Order → Priority → Decision
 priorityRule h o e =
-    firstOf
-    not (isLive o) ⇒ notLive
-    ⨾ not (isOpenDay h) ⇒ wrongMoment
-    ⨾ renumbering (prioritisedOrder h o e) PriorityUpdate
+    allowed (marketAnswer o (isOpenDay h) true)
+    (renumbering (prioritisedOrder h o e) PriorityUpdate)

@@ -1,6 +1,6 @@
-// What the market and the book tell the host: header, order and entry as values in, a plan out. Each rule's guards stand in the order of the
-// answer numbers.
+// What the market and the book tell the host: header, order and entry as values in, a plan out.
 pub mod cross;
 pub mod day;
+mod guards;
 pub mod priority;
 pub mod taken;

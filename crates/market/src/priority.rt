@@ -1,18 +1,18 @@
 // p: an order gets another price, and with it another reference.
 ghost use mathlib.Core.Path.{_≡_};
 ghost use Rattle.market.specs.Priority.{prioritisedOrder, priorityRule};
-use answers::Answer;
+use crate::guards::market_answer;
+use answers::is_done;
+use header::Header;
+use header::is_open_day;
+use orders::order::Details;
+use orders::order::Order;
+use orders::order::Terms;
+use orders::order::with_details;
 use rules::plan::Decision;
 use rules::plan::Notice;
 use rules::plan::refused;
 use rules::plan::renumbering;
-use table::header::Header;
-use table::header::is_open_day;
-use table::order::Details;
-use table::order::Order;
-use table::order::Terms;
-use table::order::is_live;
-use table::order::with_details;
 use tape::entry::Priority;
 
 fn prioritised_order(h: Header, o: Order, e: Priority) -> Order
@@ -20,12 +20,13 @@ fn prioritised_order(h: Header, o: Order, e: Priority) -> Order
 {
     let kept = o.details.kept;
     let previous = o.details.previous;
+    let minimum = o.details.terms.minimum;
     let terms = Terms {
         price: e.price,
         time: o.details.terms.time,
         display: b'Y',
         sweep: o.details.terms.sweep,
-        minimum: o.details.terms.minimum,
+        minimum,
     };
     let details = Details {
         kept,
@@ -40,11 +41,9 @@ fn prioritised_order(h: Header, o: Order, e: Priority) -> Order
 pub fn priority(h: Header, o: Order, e: Priority) -> Decision
     ensures { λ r. ⌜ r ≡ priorityRule h o e ⌝ }
 {
-    if !is_live(o) {
-        return refused(Answer::NotLive);
+    let answer = market_answer(o, is_open_day(h), true);
+    if is_done(answer) {
+        return renumbering(prioritised_order(h, o, e), Notice::PriorityUpdate);
     }
-    if !is_open_day(h) {
-        return refused(Answer::WrongMoment);
-    }
-    renumbering(prioritised_order(h, o, e), Notice::PriorityUpdate)
+    refused(answer)
 }

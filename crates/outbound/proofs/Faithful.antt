@@ -1,56 +1,52 @@
--- Each of the twelve messages that the host sends is faithful to its layout: reading and writing are each other's inverses, the answers are given exactly when the
--- paper says, and no promise allows two results. One law, cited for each. Assumes nothing.
-use mathlib.Core.Path.{refl}
-use Rattle.wire.specs.Layout.{wellLaid, unbroken, gapsAreZero}
+-- Each of the twelve messages that the host sends is faithful to its layout: reading and writing are each other's inverses, and the answers are
+-- given exactly when the paper says. One law, cited for each. Assumes nothing.
 use Rattle.wire.specs.Messages.{systemEvent, accepted, replaced, canceled, aiqCancelled, executed, brokenTrade, rejected, cancelPending, cancelReject, priorityUpdate, modified}
-use Rattle.wire.specs.Faithful.{Faithful}
-use Rattle.wire.proofs.RoundTrips.{faithful}
-use Rattle.outbound.specs.Outbound.{systemEventOf, systemEventBytes, systemEventMade, systemEventValues, readSystemEvent, acceptedOf, acceptedBytes, acceptedMade, acceptedValues, readAccepted, replacedOf, replacedBytes, replacedMade, replacedValues, readReplaced, canceledOf, canceledBytes, canceledMade, canceledValues, readCanceled, aiqCancelledOf, aiqCancelledBytes, aiqCancelledMade, aiqCancelledValues, readAiqCancelled, executedOf, executedBytes, executedMade, executedValues, readExecuted, brokenTradeOf, brokenTradeBytes, brokenTradeMade, brokenTradeValues, readBrokenTrade, rejectedOf, rejectedBytes, rejectedMade, rejectedValues, readRejected, cancelPendingOf, cancelPendingBytes, cancelPendingMade, cancelPendingValues, readCancelPending, cancelRejectOf, cancelRejectBytes, cancelRejectMade, cancelRejectValues, readCancelReject, priorityUpdateOf, priorityUpdateBytes, priorityUpdateMade, priorityUpdateValues, readPriorityUpdate, modifiedOf, modifiedBytes, modifiedMade, modifiedValues, readModified}
+use Rattle.outbound.proofs.Codec.{refl, Faithful, faithful, systemEventMade, systemEventOf, systemEventValues, systemEventBytes, acceptedMade, acceptedOf, acceptedValues, acceptedBytes, replacedMade, replacedOf, replacedValues, replacedBytes, canceledMade, canceledOf, canceledValues, canceledBytes, aiqCancelledMade, aiqCancelledOf, aiqCancelledValues, aiqCancelledBytes, executedMade, executedOf, executedValues, executedBytes, brokenTradeMade, brokenTradeOf, brokenTradeValues, brokenTradeBytes, rejectedMade, rejectedOf, rejectedValues, rejectedBytes, cancelPendingMade, cancelPendingOf, cancelPendingValues, cancelPendingBytes, cancelRejectMade, cancelRejectOf, cancelRejectValues, cancelRejectBytes, priorityUpdateMade, priorityUpdateOf, priorityUpdateValues, priorityUpdateBytes, modifiedMade, modifiedOf, modifiedValues, modifiedBytes}
 
-pub system-event-faithful : Faithful systemEvent systemEventOf systemEventBytes systemEventValues readSystemEvent
-unfolding systemEventOf systemEventBytes wellLaid unbroken gapsAreZero
-system-event-faithful = faithful systemEvent refl refl systemEventMade systemEventValues readSystemEvent (λ m. refl) (λ v. refl)
+pub system-event-faithful : Faithful systemEvent systemEventOf systemEventBytes systemEventValues
+unfolding systemEventOf systemEventBytes
+system-event-faithful = faithful 4 tt systemEventMade systemEventValues (λ m. refl) (λ v. refl)
 
-pub accepted-faithful : Faithful accepted acceptedOf acceptedBytes acceptedValues readAccepted
-unfolding acceptedOf acceptedBytes wellLaid unbroken gapsAreZero
-accepted-faithful = faithful accepted refl refl acceptedMade acceptedValues readAccepted (λ m. refl) (λ v. refl)
+pub accepted-faithful : Faithful accepted acceptedOf acceptedBytes acceptedValues
+unfolding acceptedOf acceptedBytes
+accepted-faithful = faithful 5 tt acceptedMade acceptedValues (λ m. refl) (λ v. refl)
 
-pub replaced-faithful : Faithful replaced replacedOf replacedBytes replacedValues readReplaced
-unfolding replacedOf replacedBytes wellLaid unbroken gapsAreZero
-replaced-faithful = faithful replaced refl refl replacedMade replacedValues readReplaced (λ m. refl) (λ v. refl)
+pub replaced-faithful : Faithful replaced replacedOf replacedBytes replacedValues
+unfolding replacedOf replacedBytes
+replaced-faithful = faithful 6 tt replacedMade replacedValues (λ m. refl) (λ v. refl)
 
-pub canceled-faithful : Faithful canceled canceledOf canceledBytes canceledValues readCanceled
-unfolding canceledOf canceledBytes wellLaid unbroken gapsAreZero
-canceled-faithful = faithful canceled refl refl canceledMade canceledValues readCanceled (λ m. refl) (λ v. refl)
+pub canceled-faithful : Faithful canceled canceledOf canceledBytes canceledValues
+unfolding canceledOf canceledBytes
+canceled-faithful = faithful 7 tt canceledMade canceledValues (λ m. refl) (λ v. refl)
 
-pub aiq-cancelled-faithful : Faithful aiqCancelled aiqCancelledOf aiqCancelledBytes aiqCancelledValues readAiqCancelled
-unfolding aiqCancelledOf aiqCancelledBytes wellLaid unbroken gapsAreZero
-aiq-cancelled-faithful = faithful aiqCancelled refl refl aiqCancelledMade aiqCancelledValues readAiqCancelled (λ m. refl) (λ v. refl)
+pub aiq-cancelled-faithful : Faithful aiqCancelled aiqCancelledOf aiqCancelledBytes aiqCancelledValues
+unfolding aiqCancelledOf aiqCancelledBytes
+aiq-cancelled-faithful = faithful 8 tt aiqCancelledMade aiqCancelledValues (λ m. refl) (λ v. refl)
 
-pub executed-faithful : Faithful executed executedOf executedBytes executedValues readExecuted
-unfolding executedOf executedBytes wellLaid unbroken gapsAreZero
-executed-faithful = faithful executed refl refl executedMade executedValues readExecuted (λ m. refl) (λ v. refl)
+pub executed-faithful : Faithful executed executedOf executedBytes executedValues
+unfolding executedOf executedBytes
+executed-faithful = faithful 9 tt executedMade executedValues (λ m. refl) (λ v. refl)
 
-pub broken-trade-faithful : Faithful brokenTrade brokenTradeOf brokenTradeBytes brokenTradeValues readBrokenTrade
-unfolding brokenTradeOf brokenTradeBytes wellLaid unbroken gapsAreZero
-broken-trade-faithful = faithful brokenTrade refl refl brokenTradeMade brokenTradeValues readBrokenTrade (λ m. refl) (λ v. refl)
+pub broken-trade-faithful : Faithful brokenTrade brokenTradeOf brokenTradeBytes brokenTradeValues
+unfolding brokenTradeOf brokenTradeBytes
+broken-trade-faithful = faithful 10 tt brokenTradeMade brokenTradeValues (λ m. refl) (λ v. refl)
 
-pub rejected-faithful : Faithful rejected rejectedOf rejectedBytes rejectedValues readRejected
-unfolding rejectedOf rejectedBytes wellLaid unbroken gapsAreZero
-rejected-faithful = faithful rejected refl refl rejectedMade rejectedValues readRejected (λ m. refl) (λ v. refl)
+pub rejected-faithful : Faithful rejected rejectedOf rejectedBytes rejectedValues
+unfolding rejectedOf rejectedBytes
+rejected-faithful = faithful 11 tt rejectedMade rejectedValues (λ m. refl) (λ v. refl)
 
-pub cancel-pending-faithful : Faithful cancelPending cancelPendingOf cancelPendingBytes cancelPendingValues readCancelPending
-unfolding cancelPendingOf cancelPendingBytes wellLaid unbroken gapsAreZero
-cancel-pending-faithful = faithful cancelPending refl refl cancelPendingMade cancelPendingValues readCancelPending (λ m. refl) (λ v. refl)
+pub cancel-pending-faithful : Faithful cancelPending cancelPendingOf cancelPendingBytes cancelPendingValues
+unfolding cancelPendingOf cancelPendingBytes
+cancel-pending-faithful = faithful 12 tt cancelPendingMade cancelPendingValues (λ m. refl) (λ v. refl)
 
-pub cancel-reject-faithful : Faithful cancelReject cancelRejectOf cancelRejectBytes cancelRejectValues readCancelReject
-unfolding cancelRejectOf cancelRejectBytes wellLaid unbroken gapsAreZero
-cancel-reject-faithful = faithful cancelReject refl refl cancelRejectMade cancelRejectValues readCancelReject (λ m. refl) (λ v. refl)
+pub cancel-reject-faithful : Faithful cancelReject cancelRejectOf cancelRejectBytes cancelRejectValues
+unfolding cancelRejectOf cancelRejectBytes
+cancel-reject-faithful = faithful 13 tt cancelRejectMade cancelRejectValues (λ m. refl) (λ v. refl)
 
-pub priority-update-faithful : Faithful priorityUpdate priorityUpdateOf priorityUpdateBytes priorityUpdateValues readPriorityUpdate
-unfolding priorityUpdateOf priorityUpdateBytes wellLaid unbroken gapsAreZero
-priority-update-faithful = faithful priorityUpdate refl refl priorityUpdateMade priorityUpdateValues readPriorityUpdate (λ m. refl) (λ v. refl)
+pub priority-update-faithful : Faithful priorityUpdate priorityUpdateOf priorityUpdateBytes priorityUpdateValues
+unfolding priorityUpdateOf priorityUpdateBytes
+priority-update-faithful = faithful 14 tt priorityUpdateMade priorityUpdateValues (λ m. refl) (λ v. refl)
 
-pub modified-faithful : Faithful modified modifiedOf modifiedBytes modifiedValues readModified
-unfolding modifiedOf modifiedBytes wellLaid unbroken gapsAreZero
-modified-faithful = faithful modified refl refl modifiedMade modifiedValues readModified (λ m. refl) (λ v. refl)
+pub modified-faithful : Faithful modified modifiedOf modifiedBytes modifiedValues
+unfolding modifiedOf modifiedBytes
+modified-faithful = faithful 15 tt modifiedMade modifiedValues (λ m. refl) (λ v. refl)

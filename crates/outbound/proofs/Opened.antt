@@ -1,6 +1,6 @@
 -- Everything that specs/ defines, open at once, for proofs by computation. Assumes nothing.
-use Rattle.outbound.specs.Outbound.{systemEventOf, systemEventBytes, readSystemEvent, acceptedOf, acceptedBytes, readAccepted, replacedOf, replacedBytes, readReplaced, canceledOf, canceledBytes, readCanceled, aiqCancelledOf, aiqCancelledBytes, readAiqCancelled, executedOf, executedBytes, readExecuted, brokenTradeOf, brokenTradeBytes, readBrokenTrade, rejectedOf, rejectedBytes, readRejected, cancelPendingOf, cancelPendingBytes, readCancelPending, cancelRejectOf, cancelRejectBytes, readCancelReject, priorityUpdateOf, priorityUpdateBytes, readPriorityUpdate, modifiedOf, modifiedBytes, readModified}
+use Rattle.outbound.specs.Outbound.{statedOf, systemEventOf, systemEventBytes, acceptedOf, acceptedBytes, replacedOf, replacedBytes, canceledOf, canceledBytes, aiqCancelledOf, aiqCancelledBytes, executedOf, executedBytes, brokenTradeOf, brokenTradeBytes, rejectedOf, rejectedBytes, cancelPendingOf, cancelPendingBytes, cancelRejectOf, cancelRejectBytes, priorityUpdateOf, priorityUpdateBytes, modifiedOf, modifiedBytes}
 
 unfoldable pub opened : Unit {0}
-unfolding systemEventOf systemEventBytes readSystemEvent acceptedOf acceptedBytes readAccepted replacedOf replacedBytes readReplaced canceledOf canceledBytes readCanceled aiqCancelledOf aiqCancelledBytes readAiqCancelled executedOf executedBytes readExecuted brokenTradeOf brokenTradeBytes readBrokenTrade rejectedOf rejectedBytes readRejected cancelPendingOf cancelPendingBytes readCancelPending cancelRejectOf cancelRejectBytes readCancelReject priorityUpdateOf priorityUpdateBytes readPriorityUpdate modifiedOf modifiedBytes readModified
+unfolding statedOf systemEventOf systemEventBytes acceptedOf acceptedBytes replacedOf replacedBytes canceledOf canceledBytes aiqCancelledOf aiqCancelledBytes executedOf executedBytes brokenTradeOf brokenTradeBytes rejectedOf rejectedBytes cancelPendingOf cancelPendingBytes cancelRejectOf cancelRejectBytes priorityUpdateOf priorityUpdateBytes modifiedOf modifiedBytes
 opened = tt

@@ -2,11 +2,12 @@
 -- what its reader gives.
 use Prim.Native.Nat.{ℕ}
 use mathlib.Core.List.{List}
-use Rattle.wire.specs.Layout.{Values, _&_, FromFields, reading, spell}
-use Rattle.wire.specs.Messages.{systemEvent, accepted, replaced, canceled, aiqCancelled, executed, brokenTrade, rejected, cancelPending, cancelReject, priorityUpdate, modified, readAnswer, legalOrZeros}
+use Rattle.wire.specs.Layout.{Values, _&_, bothValues, FromFields, grouped, reading, spell}
+use Rattle.wire.specs.Messages.{systemEvent, stated, acceptedRest, accepted, replacedRest, replaced, canceled, aiqCancelled, executed, brokenTrade, rejected, cancelPending, cancelReject, priorityUpdate, modified, readAnswer, legalOrZeros}
 use Rattle.wire.specs.Shares.{removed}
 pub use Rattle.outbound.specs.declared.system_event.SystemEvent.{SystemEvent}
 pub use Rattle.outbound.specs.declared.system_event.SystemEventRead.{SystemEventRead}
+pub use Rattle.outbound.specs.declared.stated.Stated.{Stated}
 pub use Rattle.outbound.specs.declared.accepted.Accepted.{Accepted}
 pub use Rattle.outbound.specs.declared.accepted.AcceptedRead.{AcceptedRead}
 pub use Rattle.outbound.specs.declared.replaced.Replaced.{Replaced}
@@ -47,15 +48,13 @@ systemEventValues m = m .stamp & m .event & tt
 unfoldable pub systemEventBytes : SystemEvent → List ℕ
 systemEventBytes m = spell systemEvent (systemEventValues m)
 
-unfoldable pub readSystemEvent : List ℕ → SystemEventRead
+abbrev pub readSystemEvent : List ℕ → SystemEventRead
 readSystemEvent s = record { answer = readAnswer systemEvent s; body = systemEventOf (legalOrZeros systemEvent s) }
 
--- ---- Accepted
+-- ---- What Accepted and Replaced both state
 
-abbrev pub acceptedMade : FromFields (accepted .fields) Accepted
-acceptedMade stamp token side shares stock price time firm display reference capacity sweep minimum cross state weight = record {
-  stamp = stamp;
-  token = token;
+abbrev pub statedMade : FromFields stated Stated
+statedMade side shares stock price time firm display reference capacity sweep minimum cross state = record {
   side = side;
   shares = removed shares;
   stock = stock;
@@ -66,61 +65,54 @@ acceptedMade stamp token side shares stock price time firm display reference cap
   reference = reference;
   capacity = capacity;
   sweep = sweep;
-  minimum = minimum;
+  minimum = removed minimum;
   cross = cross;
   state = state;
-  weight = weight;
 }
+
+unfoldable pub statedOf : List ℕ → Stated
+statedOf s = reading stated s statedMade
+
+abbrev pub statedValues : Stated → Values stated
+statedValues o =
+    o .side & o .shares .0 & o .stock & o .price & o .time & o .firm & o .display & o .reference & o .capacity &
+    o .sweep & o .minimum .0 & o .cross & o .state & tt
+
+-- ---- Accepted
+
+abbrev pub acceptedMade : FromFields (accepted .fields) Accepted
+acceptedMade stamp token =
+    grouped Accepted stated acceptedRest statedMade (λ order weight. record { stamp = stamp; token = token; order = order; weight = weight })
 
 unfoldable pub acceptedOf : List ℕ → Accepted
 acceptedOf s = reading (accepted .fields) s acceptedMade
 
 abbrev pub acceptedValues : Accepted → Values (accepted .fields)
-acceptedValues m =
-    m .stamp & m .token & m .side & m .shares .0 & m .stock & m .price & m .time & m .firm & m .display &
-    m .reference & m .capacity & m .sweep & m .minimum & m .cross & m .state & m .weight & tt
+acceptedValues m = m .stamp & m .token & bothValues stated acceptedRest (statedValues (m .order)) (m .weight & tt)
 
 unfoldable pub acceptedBytes : Accepted → List ℕ
 acceptedBytes m = spell accepted (acceptedValues m)
 
-unfoldable pub readAccepted : List ℕ → AcceptedRead
+abbrev pub readAccepted : List ℕ → AcceptedRead
 readAccepted s = record { answer = readAnswer accepted s; body = acceptedOf (legalOrZeros accepted s) }
 
 -- ---- Replaced
 
 abbrev pub replacedMade : FromFields (replaced .fields) Replaced
-replacedMade stamp token side shares stock price time firm display reference capacity sweep minimum cross state previous weight = record {
-  stamp = stamp;
-  token = token;
-  side = side;
-  shares = removed shares;
-  stock = stock;
-  price = price;
-  time = time;
-  firm = firm;
-  display = display;
-  reference = reference;
-  capacity = capacity;
-  sweep = sweep;
-  minimum = minimum;
-  cross = cross;
-  state = state;
-  previous = previous;
-  weight = weight;
-}
+replacedMade stamp token =
+    grouped Replaced stated replacedRest statedMade
+    (λ order previous weight. record { stamp = stamp; token = token; order = order; previous = previous; weight = weight })
 
 unfoldable pub replacedOf : List ℕ → Replaced
 replacedOf s = reading (replaced .fields) s replacedMade
 
 abbrev pub replacedValues : Replaced → Values (replaced .fields)
-replacedValues m =
-    m .stamp & m .token & m .side & m .shares .0 & m .stock & m .price & m .time & m .firm & m .display &
-    m .reference & m .capacity & m .sweep & m .minimum & m .cross & m .state & m .previous & m .weight & tt
+replacedValues m = m .stamp & m .token & bothValues stated replacedRest (statedValues (m .order)) (m .previous & m .weight & tt)
 
 unfoldable pub replacedBytes : Replaced → List ℕ
 replacedBytes m = spell replaced (replacedValues m)
 
-unfoldable pub readReplaced : List ℕ → ReplacedRead
+abbrev pub readReplaced : List ℕ → ReplacedRead
 readReplaced s = record { answer = readAnswer replaced s; body = replacedOf (legalOrZeros replaced s) }
 
 -- ---- Canceled
@@ -142,7 +134,7 @@ canceledValues m = m .stamp & m .token & m .decrement .0 & m .reason & tt
 unfoldable pub canceledBytes : Canceled → List ℕ
 canceledBytes m = spell canceled (canceledValues m)
 
-unfoldable pub readCanceled : List ℕ → CanceledRead
+abbrev pub readCanceled : List ℕ → CanceledRead
 readCanceled s = record { answer = readAnswer canceled s; body = canceledOf (legalOrZeros canceled s) }
 
 -- ---- Aiq Cancelled
@@ -167,7 +159,7 @@ aiqCancelledValues m = m .stamp & m .token & m .decrement .0 & m .reason & m .pr
 unfoldable pub aiqCancelledBytes : AiqCancelled → List ℕ
 aiqCancelledBytes m = spell aiqCancelled (aiqCancelledValues m)
 
-unfoldable pub readAiqCancelled : List ℕ → AiqCancelledRead
+abbrev pub readAiqCancelled : List ℕ → AiqCancelledRead
 readAiqCancelled s = record { answer = readAnswer aiqCancelled s; body = aiqCancelledOf (legalOrZeros aiqCancelled s) }
 
 -- ---- Executed
@@ -191,7 +183,7 @@ executedValues m = m .stamp & m .token & m .shares .0 & m .price & m .flag & m .
 unfoldable pub executedBytes : Executed → List ℕ
 executedBytes m = spell executed (executedValues m)
 
-unfoldable pub readExecuted : List ℕ → ExecutedRead
+abbrev pub readExecuted : List ℕ → ExecutedRead
 readExecuted s = record { answer = readAnswer executed s; body = executedOf (legalOrZeros executed s) }
 
 -- ---- Broken Trade
@@ -213,7 +205,7 @@ brokenTradeValues m = m .stamp & m .token & m .«match_number» & m .reason & tt
 unfoldable pub brokenTradeBytes : BrokenTrade → List ℕ
 brokenTradeBytes m = spell brokenTrade (brokenTradeValues m)
 
-unfoldable pub readBrokenTrade : List ℕ → BrokenTradeRead
+abbrev pub readBrokenTrade : List ℕ → BrokenTradeRead
 readBrokenTrade s = record { answer = readAnswer brokenTrade s; body = brokenTradeOf (legalOrZeros brokenTrade s) }
 
 -- ---- Rejected
@@ -234,7 +226,7 @@ rejectedValues m = m .stamp & m .token & m .reason & tt
 unfoldable pub rejectedBytes : Rejected → List ℕ
 rejectedBytes m = spell rejected (rejectedValues m)
 
-unfoldable pub readRejected : List ℕ → RejectedRead
+abbrev pub readRejected : List ℕ → RejectedRead
 readRejected s = record { answer = readAnswer rejected s; body = rejectedOf (legalOrZeros rejected s) }
 
 -- ---- Cancel Pending
@@ -254,7 +246,7 @@ cancelPendingValues m = m .stamp & m .token & tt
 unfoldable pub cancelPendingBytes : CancelPending → List ℕ
 cancelPendingBytes m = spell cancelPending (cancelPendingValues m)
 
-unfoldable pub readCancelPending : List ℕ → CancelPendingRead
+abbrev pub readCancelPending : List ℕ → CancelPendingRead
 readCancelPending s = record { answer = readAnswer cancelPending s; body = cancelPendingOf (legalOrZeros cancelPending s) }
 
 -- ---- Cancel Reject
@@ -274,7 +266,7 @@ cancelRejectValues m = m .stamp & m .token & tt
 unfoldable pub cancelRejectBytes : CancelReject → List ℕ
 cancelRejectBytes m = spell cancelReject (cancelRejectValues m)
 
-unfoldable pub readCancelReject : List ℕ → CancelRejectRead
+abbrev pub readCancelReject : List ℕ → CancelRejectRead
 readCancelReject s = record { answer = readAnswer cancelReject s; body = cancelRejectOf (legalOrZeros cancelReject s) }
 
 -- ---- Priority Update
@@ -297,7 +289,7 @@ priorityUpdateValues m = m .stamp & m .token & m .price & m .display & m .refere
 unfoldable pub priorityUpdateBytes : PriorityUpdate → List ℕ
 priorityUpdateBytes m = spell priorityUpdate (priorityUpdateValues m)
 
-unfoldable pub readPriorityUpdate : List ℕ → PriorityUpdateRead
+abbrev pub readPriorityUpdate : List ℕ → PriorityUpdateRead
 readPriorityUpdate s = record { answer = readAnswer priorityUpdate s; body = priorityUpdateOf (legalOrZeros priorityUpdate s) }
 
 -- ---- Modified
@@ -319,5 +311,5 @@ modifiedValues m = m .stamp & m .token & m .side & m .shares .0 & tt
 unfoldable pub modifiedBytes : Modified → List ℕ
 modifiedBytes m = spell modified (modifiedValues m)
 
-unfoldable pub readModified : List ℕ → ModifiedRead
+abbrev pub readModified : List ℕ → ModifiedRead
 readModified s = record { answer = readAnswer modified s; body = modifiedOf (legalOrZeros modified s) }

@@ -1,14 +1,6 @@
 -- The laws of the outbox, as a maintainer would write them on the board: about what the functions promise, for all rings, marks and
 -- messages. Assumes nothing.
-use mathlib.Core.Path.{_≡_, refl, sym, ap, ap₂, _∙_}
-use mathlib.Core.List.{List, [], _++_}
-use mathlib.Core.Bool.{Bool, true, false}
-use mathlib.Core.Logic.{_⊎_, inl, inr}
-use Prim.Native.Nat.{ℕ, _+_, _-_, _≤_, _<_}
-use native.Mathlib.Decide.{decLe}
-use native.Mathlib.Omega.{arith}
-use lib.ListN.{length, take, drop, getD}
-use lib.Seq.{take-all, take-append-seam}
+use Rattle.octets.proofs.Proving.{Bool, List, [], _++_, _+_, _-_, _<_, _∙_, _≡_, _≤_, _⊎_, ap, ap₂, arith, decLe, drop, false, getD, inl, inr, length, refl, sym, take, take-all, take-append-seam, true, ℕ}
 use Rattle.octets.specs.Bytes.{part}
 use Rattle.octets.specs.Choice.{pick}
 use Rattle.answers.specs.declared.Answer.the-variants.{Done}

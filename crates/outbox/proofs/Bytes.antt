@@ -1,13 +1,6 @@
 -- Every single byte of a ring after a put: the message's bytes stand at the message's places, and at no other place anything changed.
 -- Assumes nothing.
-use mathlib.Core.Path.{_≡_, sym, ap, _∙_}
-use mathlib.Core.List.{List}
-use mathlib.Core.Logic.{_⊎_, inl, inr}
-use Prim.Native.Nat.{ℕ, _+_, _-_, _≤_, _<_}
-use native.Mathlib.Decide.{decLt}
-use native.Mathlib.Omega.{arith}
-use lib.ListN.{length, getD}
-use lib.Seq.{getD-take, getD-drop}
+use Rattle.octets.proofs.Proving.{List, _+_, _-_, _<_, _∙_, _≡_, _≤_, _⊎_, ap, arith, decLt, getD, getD-drop, getD-take, inl, inr, length, sym, ℕ}
 use Rattle.octets.specs.Bytes.{put}
 use Rattle.octets.proofs.Laws.{part-put-same}
 use Rattle.outbox.specs.Outbox.{Marks, around, from, ringWith, messagePlace}

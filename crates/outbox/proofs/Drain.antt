@@ -1,13 +1,5 @@
 -- Reading and releasing, round after round, brings out every held byte in order, and two rounds do. Assumes nothing.
-use mathlib.Core.Path.{_≡_, refl, sym, ap, ap₂, _∙_}
-use mathlib.Core.List.{List, [], _++_}
-use mathlib.Core.Bool.{true}
-use mathlib.Core.Logic.{⊎-elim}
-use Prim.Native.Nat.{ℕ, zero, suc, _+_, _-_, _≤_}
-use native.Mathlib.Omega.{arith}
-use lib.ListN.{length, take, take-append-drop}
-use lib.Seq.{take-nil}
-use borrow.Author.Tests.{le-ltb}
+use Rattle.octets.proofs.Proving.{List, [], _++_, _+_, _-_, _∙_, _≡_, _≤_, ap, ap₂, arith, le-ltb, length, refl, suc, sym, take, take-append-drop, take-nil, true, zero, ℕ, ⊎-elim}
 use Rattle.answers.specs.declared.Answer.the-variants.{Done}
 use Rattle.outbox.specs.Outbox.{Marks, ringGood, around, held, readRun, releaseAnswer, marksWithout}
 use Rattle.outbox.specs.Drain.{afterRound, drained}

@@ -1,12 +1,6 @@
 -- A put and a release ask the same two questions in the same order: is the ring right, and is it too much? What passes both is done,
 -- and what doesn't changes nothing. Assumes nothing.
-use mathlib.Core.Path.{_≡_, refl, sym, ap, _∙_}
-use mathlib.Core.Bool.{Bool, true, false, not}
-use Prim.Native.Nat.{ℕ, _≤_}
-use lib.Dec.{ltb}
-use lib.ListN.{length}
-use mathlib.Core.List.{List}
-use borrow.Author.Tests.{ltb-false, le-ltb}
+use Rattle.octets.proofs.Proving.{Bool, List, _∙_, _≡_, _≤_, ap, false, le-ltb, length, ltb, ltb-false, not, refl, sym, true, ℕ}
 use Rattle.octets.specs.Choice.{firstOf_, _⇒_⨾_}
 use Rattle.answers.specs.Answer.{isDone, ifDone}
 use Rattle.answers.specs.declared.Answer.{Answer}

@@ -1,11 +1,5 @@
 -- What becomes of the held bytes when a message goes in and when bytes are given up, and how much of them one run is. Assumes nothing.
-use mathlib.Core.Path.{_≡_, sym, ap, _∙_}
-use mathlib.Core.List.{List, _++_}
-use mathlib.Core.Bool.{true}
-use Prim.Native.Nat.{ℕ, _+_, _-_, _≤_, min}
-use native.Mathlib.Omega.{arith}
-use lib.ListN.{length, take, drop, length-take, length-drop}
-use lib.Seq.{length-take-le, take-append-le}
+use Rattle.octets.proofs.Proving.{List, _++_, _+_, _-_, _∙_, _≡_, _≤_, ap, arith, drop, length, length-drop, length-take, length-take-le, min, sym, take, take-append-le, true, ℕ}
 use Rattle.octets.proofs.Laws.{take-put}
 use Rattle.outbox.specs.Outbox.{Marks, ringGood, freeBytes, from, held, ringWith, marksWith, marksWithout, readRun}
 use Rattle.outbox.proofs.Lists.{drop-take, take-both}

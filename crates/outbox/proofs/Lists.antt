@@ -1,12 +1,5 @@
 -- Laws of lists that the outbox needs and that speak of no ring. Assumes nothing.
-use mathlib.Core.Path.{_≡_, sym, ap, _∙_}
-use mathlib.Core.List.{List, _++_, append-nil}
-use mathlib.Core.Logic.{_⊎_, ⊎-elim}
-use Prim.Native.Nat.{ℕ, _+_, _-_, _≤_, _<_}
-use native.Mathlib.Decide.{decLe}
-use native.Mathlib.Omega.{arith}
-use lib.ListN.{length, take, drop, getD, take-append-drop}
-use lib.Seq.{length-take-le, drop-at, take-append-le, take-append-add, take-append-seam, take-add, take-all}
+use Rattle.octets.proofs.Proving.{List, _++_, _+_, _-_, _<_, _∙_, _≡_, _≤_, _⊎_, ap, append-nil, arith, decLe, drop, drop-at, getD, length, length-take-le, sym, take, take-add, take-all, take-append-add, take-append-drop, take-append-le, take-append-seam, ℕ, ⊎-elim}
 use Rattle.octets.specs.Bytes.{put}
 use Rattle.octets.proofs.Laws.{byte-part, part-put-before, part-put-after}
 

@@ -1,10 +1,6 @@
 -- What a right ring is, as four facts, and that it stays right. A test of the ring that came out true is read here and nowhere else.
 -- Assumes nothing.
-use mathlib.Core.Path.{_≡_, refl}
-use mathlib.Core.Bool.{Bool, true, false, _&&_}
-use Prim.Native.Nat.{ℕ, _+_, _≤_, _<_}
-use native.Mathlib.Omega.{arith}
-use borrow.Author.Tests.{leb-true, ltb-true, le-leb, lt-ltb}
+use Rattle.octets.proofs.Proving.{Bool, _&&_, _+_, _<_, _≡_, _≤_, arith, false, le-leb, leb-true, lt-ltb, ltb-true, refl, true, ℕ}
 use Rattle.outbox.specs.Limits.{shortestRing, longestRing}
 use Rattle.outbox.specs.Outbox.{Marks, ringGood, freeBytes, marksWith, marksWithout}
 use Rattle.outbox.proofs.Ring.{around-below}

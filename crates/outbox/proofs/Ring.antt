@@ -1,15 +1,6 @@
 -- A ring seen from a place on, around its end. Wrapping is proved here and nowhere else: three facts about places, and one law about
 -- rings of every length, `from-around`. What is said of a byte and of a store follows from that law. Assumes nothing.
-use mathlib.Core.Path.{_≡_, refl, sym, ap, _∙_}
-use mathlib.Core.List.{List, _++_, append-assoc}
-use mathlib.Core.Bool.{Bool, true, false}
-use Prim.Native.Nat.{ℕ, _+_, _-_, _≤_, _<_}
-use native.Mathlib.Nat.{add-zero, zero-add}
-use native.Mathlib.Omega.{arith}
-use lib.Dec.{ltb}
-use lib.ListN.{length, take, drop, getD, length-append, length-drop, take-append-drop, List·getD-append}
-use lib.Seq.{length-take-le, take-at, drop-at, take-append-le, drop-append-le, take-append-add, drop-append-add, take-take, drop-drop, take-add, getD-drop}
-use borrow.Author.Tests.{ltb-true, ltb-false, lt-ltb, le-ltb}
+use Rattle.octets.proofs.Proving.{Bool, List, List·getD-append, _++_, _+_, _-_, _<_, _∙_, _≡_, _≤_, add-zero, ap, append-assoc, arith, drop, drop-append-add, drop-append-le, drop-at, drop-drop, false, getD, getD-drop, le-ltb, length, length-append, length-drop, length-take-le, lt-ltb, ltb, ltb-false, ltb-true, refl, sym, take, take-add, take-append-add, take-append-drop, take-append-le, take-at, take-take, true, zero-add, ℕ}
 use Rattle.octets.specs.Choice.{pick}
 use Rattle.octets.specs.Bytes.{put}
 use Rattle.octets.proofs.Laws.{length-put, put-left}

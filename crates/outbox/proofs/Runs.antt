@@ -1,13 +1,5 @@
 -- Two unbroken runs, up to the ring's end and from its start, put a message behind the held bytes. Assumes nothing.
-use mathlib.Core.Path.{_≡_, refl, sym, ap, ap₂, _∙_}
-use mathlib.Core.List.{List}
-use mathlib.Core.Bool.{Bool, true, false}
-use Prim.Native.Nat.{ℕ, _+_, _-_, _≤_, _<_}
-use native.Mathlib.Omega.{arith}
-use lib.Dec.{leb}
-use lib.ListN.{length, take, drop, length-drop, take-append-drop, drop-of-length-le}
-use lib.Seq.{length-take-le, take-all}
-use borrow.Author.Tests.{leb-true, leb-false}
+use Rattle.octets.proofs.Proving.{Bool, List, _+_, _-_, _<_, _∙_, _≡_, _≤_, ap, ap₂, arith, drop, drop-of-length-le, false, leb, leb-false, leb-true, length, length-drop, length-take-le, refl, sym, take, take-all, take-append-drop, true, ℕ}
 use Rattle.octets.specs.Bytes.{put}
 use Rattle.octets.proofs.Laws.{length-put, put-none}
 use Rattle.outbox.specs.Outbox.{Marks, around, back, held, ringWith, marksWith}

@@ -1,11 +1,6 @@
 -- A ring with a message behind its held bytes, seen from its read place: what was held, the message, and what was there before.
 -- Assumes nothing.
-use mathlib.Core.Path.{_≡_, sym, ap, _∙_}
-use mathlib.Core.List.{List, _++_}
-use mathlib.Core.Bool.{true}
-use Prim.Native.Nat.{ℕ, _+_, _≤_, _<_}
-use native.Mathlib.Omega.{arith}
-use lib.ListN.{length}
+use Rattle.octets.proofs.Proving.{List, _++_, _+_, _<_, _∙_, _≡_, _≤_, ap, arith, length, sym, true, ℕ}
 use Rattle.octets.specs.Bytes.{put}
 use Rattle.octets.proofs.Laws.{length-put, put-put}
 use Rattle.outbox.specs.Outbox.{Marks, ringGood, freeBytes, from, back, held, ringWith, marksWith}

@@ -1,16 +1,19 @@
 -- What a C caller's numbers and bytes stand for.
-use Prim.Native.Nat.{ℕ, _-_, _/_, _%_}
+use Prim.Native.Nat.{ℕ, _+_, _*_, _/_, _%_}
 use mathlib.Core.Path.{_≡_}
 use mathlib.Core.Bool.{Bool, _&&_}
-use mathlib.Core.List.{List, _++_}
+use mathlib.Core.List.{List, [], _∷_}
 use lib.ListN.{length}
 use lib.Dec.{leb, eqb}
 use Rattle.answers.specs.Answer.{answerNumber}
+use Rattle.header.specs.Limits.{firmSize, mostFirms}
+use Rattle.header.specs.declared.settings.Firm.{Firm}
+use Rattle.header.specs.declared.settings.Settings.{Settings}
 use Rattle.host.specs.Step.{Outcome}
-use Rattle.octets.specs.Bytes.{zeros}
+use Rattle.octets.specs.Bytes.{part, zeros}
 use Rattle.octets.specs.Choice.{pick}
 use Rattle.outbox.specs.declared.marks.Marks.{Marks}
-use Rattle.table.specs.declared.settings.Settings.{Settings}
+use Rattle.wire.specs.Shares.{total}
 
 -- the marks that stand behind two pointers
 abbrev pub marks : ℕ → ℕ → Marks
@@ -18,14 +21,25 @@ marks at held = record { at = at; held = held }
 
 -- whole codes of 4 bytes, at most eight
 unfoldable pub wholeCodes : List ℕ → Bool
-wholeCodes firms = eqb (length firms % 4) 0 && leb (length firms) 32
+wholeCodes row = eqb (length row % firmSize) 0 && leb (length row) (firmSize * mostFirms)
 
--- the codes in a row, zeros behind them, and their count; a count of 0, which is refused with 3, where the row is no row of codes
+-- how many codes there are; 0, which is refused with 3, where the row is no row of codes
+unfoldable pub countGiven : List ℕ → ℕ
+countGiven row = pick (wholeCodes row) (length row / firmSize) 0
+
+-- the code at place k; zeros where the row has none
+unfoldable pub firmGiven : List ℕ → ℕ → Firm
+firmGiven row k =
+    record { code = pick (leb (firmSize * k + firmSize) (length row)) (part row (firmSize * k) firmSize) (zeros firmSize) }
+
+-- a code to a place
+unfoldable pub firmsGiven : List ℕ → List Firm
+firmsGiven row =
+    firmGiven row 0 ∷ firmGiven row 1 ∷ firmGiven row 2 ∷ firmGiven row 3 ∷ firmGiven row 4 ∷ firmGiven row 5 ∷ firmGiven row 6
+    ∷ firmGiven row 7 ∷ []
+
 unfoldable pub settingsGiven : ℕ → List ℕ → Settings
-settingsGiven threshold firms =
-    pick (wholeCodes firms)
-    (record { threshold = threshold; firms = firms ++ zeros (32 - length firms); count = length firms / 4 })
-    (record { threshold = threshold; firms = zeros 32; count = 0 })
+settingsGiven threshold row = record { threshold = total threshold; firms = firmsGiven row; count = countGiven row }
 
 -- what a step leaves a C caller with: the number of the answer, and the table, the ring and the marks as they are then
 pub record Left (o : Outcome) (number : ℕ) (table ring : List ℕ) (after : Marks) : Type 0 where

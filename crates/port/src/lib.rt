@@ -1,4 +1,4 @@
-// The door for C: five functions over lent memory. Each hands its arguments to a proved function and an answer's number back, and asks
+// The door for C: seven functions, five of them over lent memory. Each hands its arguments to a proved function and an answer's number back, and asks
 // nothing that a C caller could break but that its pointers and lengths are true.
 mod settings;
 
@@ -10,6 +10,8 @@ use outbox::marks::Marks;
 use outbox::read::read;
 use outbox::release::release;
 use table::fresh::fresh;
+use tape::kinds::entry_length;
+use wire::messages::message_length;
 ghost use mathlib.Core.Path.{_≡_};
 ghost use mathlib.Core.Bool.{not};
 ghost use lib.Dec.{eqb};
@@ -19,6 +21,8 @@ ghost use Rattle.table.specs.Fresh.{freshAnswer, freshTable};
 ghost use Rattle.outbox.specs.Outbox.{readRun, releaseAnswer, releaseMarks};
 ghost use Rattle.echo.specs.Echo.{messageAnswer, messageEchoed};
 ghost use Rattle.host.specs.Step.{step, world};
+ghost use Rattle.tape.specs.Kinds.{entryLength};
+ghost use Rattle.wire.specs.Messages.{messageLength};
 ghost use Rattle.port.specs.Door.{marks, settingsGiven, Left};
 
 // A fresh table from threshold and firms, 4 bytes each, one after the other.
@@ -92,4 +96,20 @@ pub extern "C" fn pq_echo(inbound: u8, message: &[u8], out: &mut [u8]) -> u8
     ensures { λ r. ⌜ (r ≡ answerNumber (messageAnswer (not (eqb inbound 0)) (now (message .entry)) (now (out .entry)))) × (now (out .exit) ≡ messageEchoed (not (eqb inbound 0)) (now (message .entry)) (now (out .entry))) ⌝ }
 {
     number(echo(inbound != 0, message, out))
+}
+
+// The length of an entry of this kind, kind byte and stamp included, so that no driver keeps a table of its own; 0 for no kind.
+#[no_mangle]
+pub extern "C" fn pq_entry_length(kind: u8) -> usize
+    ensures { λ r. ⌜ r ≡ entryLength kind ⌝ }
+{
+    entry_length(kind)
+}
+
+// The length of the message of this type, as inbound where `inbound` is not 0; 0 for no type.
+#[no_mangle]
+pub extern "C" fn pq_message_length(inbound: u8, letter: u8) -> usize
+    ensures { λ r. ⌜ r ≡ messageLength (not (eqb inbound 0)) letter ⌝ }
+{
+    message_length(inbound != 0, letter)
 }

@@ -1,7 +1,3 @@
-pub mod Opened
-pub mod Standing
-pub mod Moments
-pub mod Shapes
-pub mod Keeps
-pub mod Spelled
-pub mod Told
+pub mod Prices
+pub mod Allowed
+pub mod Unique

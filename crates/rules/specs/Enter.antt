@@ -1,6 +1,7 @@
 -- O: an order is entered (What each entry does, O).
 use Prim.Native.Nat.{ℕ, min}
 use mathlib.Core.Bool.{Bool, not, _&&_, _||_}
+use mathlib.Core.List.{List}
 use lib.Dec.{ltb, eqb}
 use Rattle.octets.specs.Choice.{pick, firstOf_, _⇒_⨾_, among}
 use Rattle.octets.specs.Bytes.{zeros}
@@ -8,13 +9,14 @@ use Rattle.wire.specs.Letters.{live, closed, firmNotListed, invalidStock, notIn
 use Rattle.wire.specs.Limits.{tokenSize}
 use Rattle.wire.specs.Text.{shaped}
 use Rattle.wire.specs.Price.{goodPrice}
-use Rattle.wire.specs.Shares.{total, removed, _exceeds_, _less_, _isBelow_, _equals_}
-use Rattle.table.specs.Counts.{newCounts}
-use Rattle.table.specs.Order.{isUsed}
-use Rattle.table.specs.Header.{isOpenDay, meantFirm, isListed}
+use Rattle.wire.specs.Shares.{total, removed, _exceeds_, _isBelow_, _equals_}
+use Rattle.orders.specs.Counts.{newCounts, openShares}
+use Rattle.orders.specs.Order.{isUsed}
+use Rattle.header.specs.Header.{isOpenDay}
+use Rattle.header.specs.Firms.{meantFirm, isListed}
 use Rattle.rules.specs.Limits.{longestTime, immediate}
 use Rattle.rules.specs.Plan.{ignored, accepting, rejecting}
-use Rattle.rules.specs.Types.{Decision, Fault, Letter, Absent, Total, Removed, Kept, Terms, Order, Header, EnterOrder}
+use Rattle.rules.specs.Types.{Decision, Fault, Letter, Absent, Total, Removed, Price, Kept, Terms, Order, Header, EnterOrder}
 
 -- ---- faults that O and U share
 
@@ -30,46 +32,52 @@ badPrice price cross = not (goodPrice price cross)
 unfoldable pub badShares : Header → Total → Bool
 badShares h shares = (shares equals total 0) || not (shares isBelow h .threshold)
 
--- N: minimum above 0 with time in force not 0, or above shares
-unfoldable pub badMinimum : ℕ → ℕ → Removed → Bool
-badMinimum minimum time shares = (ltb 0 minimum && not (eqb time immediate)) || removed minimum exceeds shares
+-- N: minimum above 0 with time in force not 0, or above shares (those that are open)
+unfoldable pub badMinimum : Removed → ℕ → Removed → Bool
+badMinimum minimum time shares = ((minimum exceeds removed 0) && not (eqb time immediate)) || minimum exceeds shares
 
 -- ---- the fault of an O: the first that applies
 
--- day not open; firm (blank means default) not listed; stock not 1 to 8 capitals then spaces; cross not N O C; and those above
-unfoldable pub enterFault : Header → EnterOrder → Fault
-enterFault h e =
+-- the last three, those above; of an order as entered all shares are open
+unfoldable pub faultOfNumbers : Header → EnterOrder → Fault
+faultOfNumbers h e =
+    firstOf
+    badPrice (e .price) (e .cross) ⇒ Letter invalidPrice  -- X
+    ⨾ badShares h (e .shares) ⇒ Letter aboveThreshold  -- Z
+    ⨾ badMinimum (e .minimum) (e .time) (openShares (newCounts (e .shares))) ⇒ Letter invalidMinimum  -- N
+    ⨾ Absent (record { 0 = e .price })
+
+-- day not open; firm not listed; stock not 1 to 8 capitals then spaces; cross not N O C; display; and then those
+unfoldable pub enterFault : Header → List ℕ → EnterOrder → Fault
+enterFault h firm e =
     firstOf
     not (isOpenDay h) ⇒ Letter closed  -- C
-    ⨾ not (isListed h (meantFirm h (e .firm))) ⇒ Letter firmNotListed  -- L
+    ⨾ not (isListed h firm) ⇒ Letter firmNotListed  -- L
     ⨾ not (shaped (e .stock)) ⇒ Letter invalidStock  -- S
     ⨾ not (among crosses (e .cross)) ⇒ Letter notInThisCross  -- R
     ⨾ badDisplay (e .display) (e .cross) ⇒ Letter invalidDisplay  -- D
-    ⨾ badPrice (e .price) (e .cross) ⇒ Letter invalidPrice  -- X
-    ⨾ badShares h (e .shares) ⇒ Letter aboveThreshold  -- Z
-    ⨾ badMinimum (e .minimum) (e .time) (e .shares less total 0) ⇒ Letter invalidMinimum  -- N
-    ⨾ Absent
+    ⨾ faultOfNumbers h e
 
 -- ---- the order as accepted
 
 -- what O and U bring anew: echoed, but time in force above 99,999 becomes 99,999
-unfoldable pub acceptedTerms : ℕ → ℕ → ℕ → ℕ → ℕ → Terms
+unfoldable pub acceptedTerms : Price → ℕ → ℕ → ℕ → Removed → Terms
 acceptedTerms price time display sweep minimum =
-    record { price = price; time = min time longestTime; display = display; sweep = sweep; minimum = minimum }
+    record { price = price .0; time = min time longestTime; display = display; sweep = sweep; minimum = minimum }
 
--- a blank firm becomes the default; capacity outside A P R becomes O
-unfoldable pub enteredKept : Header → EnterOrder → Kept
-enteredKept h e =
+-- capacity outside A P R becomes O
+unfoldable pub enteredKept : List ℕ → EnterOrder → Kept
+enteredKept firm e =
     record {
       stock = e .stock;
-      firm = meantFirm h (e .firm);
+      firm = firm;
       capacity = pick (among capacities (e .capacity)) (e .capacity) otherCapacity;
       cross = e .cross;
     }
 
 -- live, fields echoed and so stored; it takes the next reference
-unfoldable pub enteredOrder : Header → EnterOrder → Order
-enteredOrder h e =
+unfoldable pub enteredOrder : Header → List ℕ → EnterOrder → Price → Order
+enteredOrder h firm e price =
     record {
       state = live;
       token = e .token;
@@ -77,8 +85,8 @@ enteredOrder h e =
       shares = newCounts (e .shares);
       flags = 0;
       details = record {
-        kept = enteredKept h e;
-        terms = acceptedTerms (e .price) (e .time) (e .display) (e .sweep) (e .minimum);
+        kept = enteredKept firm e;
+        terms = acceptedTerms price (e .time) (e .display) (e .sweep) (e .minimum);
         reference = h .reference;
         previous = zeros tokenSize;
         spare = 0;
@@ -86,13 +94,14 @@ enteredOrder h e =
     }
 
 -- the letter is sent in a Rejected Message and the token stored as R; if there is none, Accepted
-unfoldable pub enterOutcome : Header → EnterOrder → Fault → Decision
-enterOutcome h e (Letter reason) = rejecting (e .token) reason
-enterOutcome h e Absent = accepting (enteredOrder h e)
+unfoldable pub enterOutcome : Header → List ℕ → EnterOrder → Fault → Decision
+enterOutcome h firm e (Letter reason) = rejecting (e .token) reason
+enterOutcome h firm e (Absent price) = accepting (enteredOrder h firm e price)
 
--- Used token: 1. (`found` is what the entry's token means so far.)
+-- Used token: 1. A blank firm means, and so becomes, the default. (`found` is what the entry's token means so far.)
 unfoldable pub enterRule : Header → Order → EnterOrder → Decision
 enterRule h found e =
+    let firm = meantFirm h (e .firm) in
     firstOf
     isUsed found ⇒ ignored
-    ⨾ enterOutcome h e (enterFault h e)
+    ⨾ enterOutcome h firm e (enterFault h firm e)

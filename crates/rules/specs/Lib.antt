@@ -1,9 +1,7 @@
 pub mod Types
 pub mod Limits
 pub mod Plan
-pub mod Sane
 pub mod Enter
 pub mod Replace
 pub mod Cancel
 pub mod Modify
-pub mod Sent

@@ -8,7 +8,3 @@ longestTime = 99_999
 -- minimum above 0 with time in force not 0
 abbrev pub immediate : ℕ
 immediate = 0
-
--- the longest outbound message, U
-abbrev pub longestMessage : ℕ
-longestMessage = 80

@@ -5,9 +5,10 @@ use lib.Dec.{eqb}
 use Rattle.octets.specs.Choice.{firstOf_, _⇒_⨾_, among}
 use Rattle.wire.specs.Letters.{sellSides}
 use Rattle.wire.specs.Shares.{_isBelow_, _equals_}
-use Rattle.table.specs.Counts.{gone, withLiable}
-use Rattle.table.specs.Order.{isLive, isLate, withSide, withShares}
-use Rattle.table.specs.Header.{isOpenDay}
+use Rattle.orders.specs.Counts.{gone, withLiable}
+use Rattle.orders.specs.Order.{isLive, _is_, withSide, deadIfSpent}
+use Rattle.orders.specs.declared.flags.Flag.the-variants.{Late}
+use Rattle.header.specs.Header.{isOpenDay}
 use Rattle.rules.specs.Plan.{ignored, changing}
 use Rattle.rules.specs.Types.{Modified, Decision, Order, Header, ModifyOrder}
 
@@ -21,15 +22,15 @@ unfoldable pub modifyIgnored : Header → Order → ModifyOrder → Bool
 modifyIgnored h o e =
     not (isLive o)
     || not (isOpenDay h)
-    || isLate o
+    || (o is Late)
     || not (sideAllowed (o .side) (e .side))
     || not (gone (o .shares) isBelow e .shares)
     || (o .shares .liable isBelow e .shares)
     || (eqb (o .side) (e .side) && o .shares .liable equals e .shares)
 
--- Otherwise side and liable are stored
+-- Otherwise side and liable are stored. (An order whose open reaches 0 is dead; here something stays open.)
 unfoldable pub modifiedOrder : Order → ModifyOrder → Order
-modifiedOrder o e = withShares (withSide o (e .side)) (withLiable (o .shares) (e .shares))
+modifiedOrder o e = deadIfSpent (withSide o (e .side)) (withLiable (o .shares) (e .shares))
 
 -- and Modified shows the new open
 unfoldable pub modifyRule : Header → Order → ModifyOrder → Decision

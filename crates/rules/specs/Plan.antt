@@ -1,58 +1,61 @@
--- The decisions that there are: a refusal, or a plan.
+-- The decisions that there are: a refusal, or a plan. A plan says all that a done entry changes beside the last stamp:
+--     begins    the day that begins, or Nothing
+--     changed   the order that the entry names, as it is afterwards; noOrder if it stays as it is
+--     added     what the first free record holds afterwards; noOrder if it stays free
+--     numbered  whether the order that is changed or added has taken the next reference
+--     notice    what is told
 use Prim.Native.Nat.{ℕ}
-use mathlib.Core.Bool.{true, false}
+use mathlib.Core.Bool.{Bool, true, false}
 use mathlib.Core.List.{List}
-use Rattle.table.specs.Order.{noOrder, rejectedOrder}
-use Rattle.rules.specs.Types.{Order, Answer, Plan, Decision, Notice, Silent, Rejected, Accepted, Replaced, SystemEvent, Done, Ignored, NotLive, WrongMoment, WrongShares}
+use Rattle.answers.specs.Answer.{isDone}
+use Rattle.octets.specs.Choice.{firstOf_, _⇒_⨾_}
+use Rattle.orders.specs.Order.{noOrder, rejectedOrder}
+use Rattle.rules.specs.Types.{Order, Answer, Plan, Begins, Nothing, Day, Decision, Notice, Silent, Rejected, Accepted, Replaced, SystemEvent, Done, Ignored}
+
+abbrev pub decided : Answer → Begins → Order → Order → Bool → Notice → Decision
+decided answer begins changed added numbered notice =
+    record {
+      answer = answer;
+      plan = record { begins = begins; changed = changed; added = added; numbered = numbered; notice = notice };
+    }
 
 -- nothing changes and nothing is told
-unfoldable pub noPlan : Plan
-noPlan = record { begins = 0; changed = noOrder; added = noOrder; numbered = false; notice = Silent }
+unfoldable pub refused : Answer → Decision
+refused answer = decided answer Nothing noOrder noOrder false Silent
 
-abbrev pub refused : Answer → Decision
-refused a = record { answer = a; plan = noPlan }
-
-abbrev pub planned : Plan → Decision
-planned p = record { answer = Done; plan = p }
-
--- ---- the refusals of the rules
-
+-- the refusal of a client's entry
 abbrev pub ignored : Decision
 ignored = refused Ignored
 
-abbrev pub notLive : Decision
-notLive = refused NotLive
-
-abbrev pub wrongMoment : Decision
-wrongMoment = refused WrongMoment
-
-abbrev pub wrongShares : Decision
-wrongShares = refused WrongShares
+-- the decision of an entry that passes the checks, or else the refusal that they come to
+unfoldable pub allowed : Answer → Decision → Decision
+allowed answer d =
+    firstOf
+    isDone answer ⇒ d
+    ⨾ refused answer
 
 -- ---- the plans
 
 -- the named order changes, and this is told of it
 unfoldable pub changing : Order → Notice → Decision
-changing o notice = planned (record { begins = 0; changed = o; added = noOrder; numbered = false; notice = notice })
+changing o notice = decided Done Nothing o noOrder false notice
 
 -- the same, and it has the next reference
 unfoldable pub renumbering : Order → Notice → Decision
-renumbering o notice = planned (record { begins = 0; changed = o; added = noOrder; numbered = true; notice = notice })
+renumbering o notice = decided Done Nothing o noOrder true notice
 
 -- a new order, with the next reference
 unfoldable pub accepting : Order → Decision
-accepting new = planned (record { begins = 0; changed = noOrder; added = new; numbered = true; notice = Accepted })
+accepting new = decided Done Nothing noOrder new true Accepted
 
 -- the same, for the named order
 unfoldable pub replacing : Order → Order → Decision
-replacing old new = planned (record { begins = 0; changed = old; added = new; numbered = true; notice = Replaced })
+replacing old new = decided Done Nothing old new true Replaced
 
 -- a Rejected Message, and the token stored as R
 unfoldable pub rejecting : List ℕ → ℕ → Decision
-rejecting token reason =
-    planned (record { begins = 0; changed = noOrder; added = rejectedOrder token; numbered = false; notice = Rejected reason })
+rejecting token reason = decided Done Nothing noOrder (rejectedOrder token) false (Rejected reason)
 
 -- System Event, sets day
 unfoldable pub beginning : ℕ → ℕ → Decision
-beginning day event =
-    planned (record { begins = day; changed = noOrder; added = noOrder; numbered = false; notice = SystemEvent event })
+beginning day event = decided Done (Day day) noOrder noOrder false (SystemEvent event)

@@ -1,24 +1,25 @@
 // O: an order is entered. The first fault, in the paper's order, is the letter of its Rejected Message.
 ghost use mathlib.Core.Path.{_≡_};
-ghost use Prim.Native.Nat.{_≤_};
-ghost use Rattle.table.specs.Limits.{mostFirms};
-ghost use Rattle.rules.specs.Enter.{badDisplay, badPrice, badShares, badMinimum, enterFault, acceptedTerms, enteredKept, enteredOrder, enterRule};
+ghost use Rattle.octets.specs.Choice.{_⇒_⨾_};
+ghost use Rattle.rules.specs.Types.{Letter};
+ghost use Rattle.rules.specs.Enter.{badDisplay, badShares, badMinimum, faultOfNumbers, enterFault, acceptedTerms, enteredKept, enteredOrder, enterRule};
 use crate::plan::Decision;
 use crate::plan::accepting;
 use crate::plan::refused;
 use crate::plan::rejecting;
 use answers::Answer;
+use header::Header;
+use header::firms::is_listed;
+use header::firms::meant_firm;
+use header::is_open_day;
 use inbound::enter_order::EnterOrder;
-use table::counts::new_counts;
-use table::header::Header;
-use table::header::is_listed;
-use table::header::is_open_day;
-use table::header::meant_firm;
-use table::order::Details;
-use table::order::Kept;
-use table::order::Order;
-use table::order::Terms;
-use table::order::is_used;
+use orders::counts::new_counts;
+use orders::counts::open_shares;
+use orders::order::Details;
+use orders::order::Kept;
+use orders::order::Order;
+use orders::order::Terms;
+use orders::order::is_used;
 use wire::letters::is_capacity;
 use wire::letters::is_cross;
 use wire::letters::is_display;
@@ -28,80 +29,97 @@ use wire::shares::Removed;
 use wire::shares::Total;
 use wire::text::is_shaped;
 
-// Why an entered order is rejected: the letter of its Rejected Message, or no reason at all.
+// A time in force of 99,999 or above is a special value, and stored as 99,999.
+pub const LONGEST_TIME: u32 = 99_999;
+
+// Why an entered order is rejected: the letter of its Rejected Message. If there is no reason, its price is one that an order may have.
 pub enum Fault {
     Letter(u8),
-    Absent,
+    Absent(Price),
 }
 
 // The faults that a replacement may have too are asked in functions of their own.
-pub fn bad_display(display: u8, cross: u8) -> bool
+pub(crate) fn bad_display(display: u8, cross: u8) -> bool
     ensures { λ r. ⌜ r ≡ badDisplay display cross ⌝ }
 {
     !is_display(display) | ((display == b'I') & (cross == b'N'))
 }
 
-pub fn bad_price(price: u32, cross: u8) -> bool
-    ensures { λ r. ⌜ r ≡ badPrice price cross ⌝ }
-{
-    match Price::new(price, cross) {
-        Priced::Good(_) => false,
-        Priced::Bad => true,
-    }
-}
-
-pub fn bad_shares(h: Header, shares: Total) -> bool
+pub(crate) fn bad_shares(h: Header, shares: Total) -> bool
     ensures { λ r. ⌜ r ≡ badShares h shares ⌝ }
 {
-    (shares.0 == 0) | !(shares.0 < h.threshold.0)
+    let threshold = h.threshold;
+    shares.equals(Total(0)) | !shares.is_below(threshold)
 }
 
-pub fn bad_minimum(minimum: u32, time: u32, shares: Removed) -> bool
+pub(crate) fn bad_minimum(minimum: Removed, time: u32, shares: Removed) -> bool
     ensures { λ r. ⌜ r ≡ badMinimum minimum time shares ⌝ }
 {
-    ((0 < minimum) & !(time == 0)) | (shares.0 < minimum)
+    (minimum.exceeds(Removed(0)) & !(time == 0)) | minimum.exceeds(shares)
 }
 
-fn enter_fault(h: Header, e: EnterOrder) -> Fault
-    requires { ⌜ h .count ≤ mostFirms ⌝ }
-    ensures { λ r. ⌜ r ≡ enterFault h e ⌝ }
+fn first_fault(test: bool, letter: u8, later: Fault) -> Fault
+    ensures { λ r. ⌜ r ≡ (test ⇒ Letter letter ⨾ later) ⌝ }
 {
-    if !is_open_day(h) {
-        return Fault::Letter(b'C');
+    if test {
+        return Fault::Letter(letter);
     }
-    let firm = e.firm;
-    if !is_listed(h, meant_firm(h, firm)) {
-        return Fault::Letter(b'L');
-    }
-    let stock = e.stock;
-    if !is_shaped(&stock) {
-        return Fault::Letter(b'S');
-    }
-    if !is_cross(e.cross) {
-        return Fault::Letter(b'R');
-    }
-    if bad_display(e.display, e.cross) {
-        return Fault::Letter(b'D');
-    }
-    if bad_price(e.price, e.cross) {
-        return Fault::Letter(b'X');
-    }
-    if bad_shares(h, e.shares) {
-        return Fault::Letter(b'Z');
-    }
-    if bad_minimum(e.minimum, e.time, Removed(e.shares.0)) {
-        return Fault::Letter(b'N');
-    }
-    Fault::Absent
+    later
 }
 
-// What O and U bring anew. No order lives longer than the day that a time in force of 99,999 seconds covers.
-pub fn accepted_terms(price: u32, time: u32, display: u8, sweep: u8, minimum: u32) -> Terms
+// X, Z and N. Of an order as entered all shares are open.
+fn fault_of_numbers(h: Header, e: EnterOrder) -> Fault
+    ensures { λ r. ⌜ r ≡ faultOfNumbers h e ⌝ }
+{
+    let shares = e.shares;
+    let minimum = e.minimum;
+    match Price::new(e.price, e.cross) {
+        Priced::Good(price) => first_fault(
+            bad_shares(h, shares),
+            b'Z',
+            first_fault(
+                bad_minimum(minimum, e.time, open_shares(new_counts(shares))),
+                b'N',
+                Fault::Absent(price),
+            ),
+        ),
+        Priced::Bad => Fault::Letter(b'X'),
+    }
+}
+
+// Asked from the last to the first, so that the first that applies is what is left.
+fn enter_fault(h: Header, firm: [u8; 4], e: EnterOrder) -> Fault
+    ensures { λ r. ⌜ r ≡ enterFault h firm e ⌝ }
+{
+    let stock = e.stock;
+    let d = first_fault(
+        bad_display(e.display, e.cross),
+        b'D',
+        fault_of_numbers(h, e),
+    );
+    let r = first_fault(!is_cross(e.cross), b'R', d);
+    let s = first_fault(!is_shaped(&stock), b'S', r);
+    let l = first_fault(!is_listed(h, firm), b'L', s);
+    first_fault(!is_open_day(h), b'C', l)
+}
+
+// What O and U bring anew.
+pub(crate) fn accepted_terms(
+    price: Price,
+    time: u32,
+    display: u8,
+    sweep: u8,
+    minimum: Removed,
+) -> Terms
     ensures { λ r. ⌜ r ≡ acceptedTerms price time display sweep minimum ⌝ }
 {
-    let time = if time < 99_999 { time } else { 99_999 };
+    let time = if time < LONGEST_TIME {
+        time
+    } else {
+        LONGEST_TIME
+    };
     Terms {
-        price,
+        price: price.0,
         time,
         display,
         sweep,
@@ -109,12 +127,10 @@ pub fn accepted_terms(price: u32, time: u32, display: u8, sweep: u8, minimum: u3
     }
 }
 
-fn entered_kept(h: Header, e: EnterOrder) -> Kept
-    ensures { λ r. ⌜ r ≡ enteredKept h e ⌝ }
+fn entered_kept(firm: [u8; 4], e: EnterOrder) -> Kept
+    ensures { λ r. ⌜ r ≡ enteredKept firm e ⌝ }
 {
     let stock = e.stock;
-    let sent = e.firm;
-    let firm = meant_firm(h, sent);
     let capacity = if is_capacity(e.capacity) {
         e.capacity
     } else {
@@ -128,19 +144,17 @@ fn entered_kept(h: Header, e: EnterOrder) -> Kept
     }
 }
 
-fn entered_order(h: Header, e: EnterOrder) -> Order
-    ensures { λ r. ⌜ r ≡ enteredOrder h e ⌝ }
+fn entered_order(h: Header, firm: [u8; 4], e: EnterOrder, price: Price) -> Order
+    ensures { λ r. ⌜ r ≡ enteredOrder h firm e price ⌝ }
 {
     let token = e.token;
     let shares = new_counts(e.shares);
-    let kept = entered_kept(h, e);
-    let terms = accepted_terms(e.price, e.time, e.display, e.sweep, e.minimum);
-    let previous = [0u8; 14];
+    let minimum = e.minimum;
     let details = Details {
-        kept,
-        terms,
+        kept: entered_kept(firm, e),
+        terms: accepted_terms(price, e.time, e.display, e.sweep, minimum),
         reference: h.reference,
-        previous,
+        previous: [0u8; 14],
         spare: 0,
     };
     Order {
@@ -155,15 +169,16 @@ fn entered_order(h: Header, e: EnterOrder) -> Order
 
 // `found` is what the entry's token means so far.
 pub fn enter(h: Header, found: Order, e: EnterOrder) -> Decision
-    requires { ⌜ h .count ≤ mostFirms ⌝ }
     ensures { λ r. ⌜ r ≡ enterRule h found e ⌝ }
 {
     if is_used(found) {
         return refused(Answer::Ignored);
     }
     let token = e.token;
-    match enter_fault(h, e) {
+    let sent = e.firm;
+    let firm = meant_firm(h, sent);
+    match enter_fault(h, firm, e) {
         Fault::Letter(reason) => rejecting(token, reason),
-        Fault::Absent => accepting(entered_order(h, e)),
+        Fault::Absent(price) => accepting(entered_order(h, firm, e, price)),
     }
 }

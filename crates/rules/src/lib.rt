@@ -1,7 +1,6 @@
-// What each client's entry does, and the message that any plan sends: header, orders and entry as values in, a plan out. No rule sees a byte of the table or the ring.
+// What each client's entry does: header, orders and entry as values in, a plan out. No rule sees a byte of the table or the ring.
 pub mod cancel;
 pub mod enter;
 pub mod modify;
 pub mod plan;
 pub mod replace;
-pub mod sent;

@@ -1,10 +1,10 @@
 // What a rule decides. The rules know neither bytes nor the ring: a plan is values only.
 ghost use mathlib.Core.Path.{_≡_};
-ghost use Rattle.rules.specs.Plan.{refused, changing, renumbering, accepting, replacing, rejecting, beginning};
+ghost use Rattle.rules.specs.Plan.{decided, refused, changing, renumbering, accepting, replacing, rejecting, beginning};
 use answers::Answer;
-use table::order::Order;
-use table::order::no_order;
-use table::order::rejected_order;
+use orders::order::Order;
+use orders::order::no_order;
+use orders::order::rejected_order;
 use tape::entry::Execution;
 use tape::entry::SelfMatch;
 use wire::shares::Removed;
@@ -25,15 +25,20 @@ pub enum Notice {
     Modified,
 }
 
-// All that a done entry changes beside the last stamp. An order of state 0 says: none.
+pub enum Begins {
+    Nothing,
+    // the day's number in the header from now on
+    Day(u8),
+}
+
+// All that a done entry changes beside the last stamp. An order of state 0 stands for none.
 pub struct Plan {
-    // the day that begins; 0 for none
-    pub begins: u8,
-    // the order that the entry names, as it is afterwards
+    pub begins: Begins,
+    // the order that the entry names, as it is afterwards; none if it stays as it is
     pub changed: Order,
-    // what the first free record holds afterwards
+    // what the first free record holds afterwards; none if it stays free
     pub added: Order,
-    // the next reference is taken
+    // the order above has taken the next reference
     pub numbered: bool,
     pub notice: Notice,
 }
@@ -44,120 +49,96 @@ pub struct Decision {
     pub plan: Plan,
 }
 
+fn decided(
+    answer: Answer,
+    begins: Begins,
+    changed: Order,
+    added: Order,
+    numbered: bool,
+    notice: Notice,
+) -> Decision
+    ensures { λ r. ⌜ r ≡ decided answer begins changed added numbered notice ⌝ }
+{
+    let plan = Plan {
+        begins,
+        changed,
+        added,
+        numbered,
+        notice,
+    };
+    Decision { answer, plan }
+}
+
 // A refusal has a plan too, the empty one, so that nobody can carry out what was refused.
 pub fn refused(answer: Answer) -> Decision
     ensures { λ r. ⌜ r ≡ refused answer ⌝ }
 {
     let none = no_order();
-    let plan = Plan {
-        begins: 0,
-        changed: none,
-        added: none,
-        numbered: false,
-        notice: Notice::Silent,
-    };
-    Decision { answer, plan }
+    decided(answer, Begins::Nothing, none, none, false, Notice::Silent)
 }
 
 pub fn changing(o: Order, notice: Notice) -> Decision
     ensures { λ r. ⌜ r ≡ changing o notice ⌝ }
 {
-    let none = no_order();
-    let plan = Plan {
-        begins: 0,
-        changed: o,
-        added: none,
-        numbered: false,
-        notice,
-    };
-    Decision {
-        answer: Answer::Done,
-        plan,
-    }
+    decided(Answer::Done, Begins::Nothing, o, no_order(), false, notice)
 }
 
 pub fn renumbering(o: Order, notice: Notice) -> Decision
     ensures { λ r. ⌜ r ≡ renumbering o notice ⌝ }
 {
-    let none = no_order();
-    let plan = Plan {
-        begins: 0,
-        changed: o,
-        added: none,
-        numbered: true,
-        notice,
-    };
-    Decision {
-        answer: Answer::Done,
-        plan,
-    }
+    decided(Answer::Done, Begins::Nothing, o, no_order(), true, notice)
 }
 
 pub fn accepting(new: Order) -> Decision
     ensures { λ r. ⌜ r ≡ accepting new ⌝ }
 {
-    let none = no_order();
-    let plan = Plan {
-        begins: 0,
-        changed: none,
-        added: new,
-        numbered: true,
-        notice: Notice::Accepted,
-    };
-    Decision {
-        answer: Answer::Done,
-        plan,
-    }
+    decided(
+        Answer::Done,
+        Begins::Nothing,
+        no_order(),
+        new,
+        true,
+        Notice::Accepted,
+    )
 }
 
 pub fn replacing(old: Order, new: Order) -> Decision
     ensures { λ r. ⌜ r ≡ replacing old new ⌝ }
 {
-    let plan = Plan {
-        begins: 0,
-        changed: old,
-        added: new,
-        numbered: true,
-        notice: Notice::Replaced,
-    };
-    Decision {
-        answer: Answer::Done,
-        plan,
-    }
+    decided(
+        Answer::Done,
+        Begins::Nothing,
+        old,
+        new,
+        true,
+        Notice::Replaced,
+    )
 }
 
-// The token is used up, and no reference is taken.
+// The token is used up, and what is rejected takes no reference.
 pub fn rejecting(token: [u8; 14], reason: u8) -> Decision
     ensures { λ r. ⌜ r ≡ rejecting token reason ⌝ }
 {
-    let none = no_order();
-    let added = rejected_order(token);
-    let plan = Plan {
-        begins: 0,
-        changed: none,
-        added,
-        numbered: false, // what is rejected has no reference
-        notice: Notice::Rejected(reason),
-    };
-    Decision {
-        answer: Answer::Done,
-        plan,
-    }
+    decided(
+        Answer::Done,
+        Begins::Nothing,
+        no_order(),
+        rejected_order(token),
+        false,
+        Notice::Rejected(reason),
+    )
 }
 
 pub fn beginning(day: u8, event: u8) -> Decision
     ensures { λ r. ⌜ r ≡ beginning day event ⌝ }
 {
     let none = no_order();
-    let plan = Plan {
-        begins: day,
-        changed: none,
-        added: none,
-        numbered: false,
-        notice: Notice::SystemEvent(event),
-    };
-    Decision {
-        answer: Answer::Done,
-        plan,
-    }
+    decided(
+        Answer::Done,
+        Begins::Day(day),
+        none,
+        none,
+        false,
+        Notice::SystemEvent(event),
+    )
 }

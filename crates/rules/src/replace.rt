@@ -1,11 +1,9 @@
 // U: a live order is replaced by another under a new token. The Shares sent in are a total: what is gone of the chain counts against them.
 ghost use mathlib.Core.Path.{_≡_};
-ghost use Rattle.rules.specs.Sane.{Open, Sane};
-ghost use Rattle.rules.specs.Replace.{badDetails, replacementOrder, replaceOpen, replaceRule};
+ghost use Rattle.rules.specs.Replace.{badBesidePrice, replacementOrder, canceledWhole, replaceOpen, replaceRule};
 use crate::enter::accepted_terms;
 use crate::enter::bad_display;
 use crate::enter::bad_minimum;
-use crate::enter::bad_price;
 use crate::enter::bad_shares;
 use crate::plan::Decision;
 use crate::plan::Notice;
@@ -14,49 +12,45 @@ use crate::plan::refused;
 use crate::plan::rejecting;
 use crate::plan::replacing;
 use answers::Answer;
+use header::Header;
+use header::is_open_day;
 use inbound::replace_order::ReplaceOrder;
-use table::counts::gone;
-use table::counts::open_shares;
-use table::counts::with_liable;
-use table::header::Header;
-use table::header::is_open_day;
-use table::order::Details;
-use table::order::Order;
-use table::order::is_late;
-use table::order::is_live;
-use table::order::is_used;
-use table::order::killed;
-use wire::shares::Removed;
+use orders::counts::gone_is_below;
+use orders::counts::less_gone;
+use orders::counts::open_shares;
+use orders::counts::with_liable;
+use orders::flags::Flag;
+use orders::order::Details;
+use orders::order::Order;
+use orders::order::is;
+use orders::order::is_live;
+use orders::order::is_used;
+use orders::order::killed;
+use wire::price::Price;
+use wire::price::Priced;
 
-fn bad_details(h: Header, old: Order, e: ReplaceOrder) -> bool
-    requires { ⌜ Open (old .shares) ⌝ }
-    ensures { λ r. ⌜ r ≡ badDetails h old e ⌝ }
+fn bad_beside_price(h: Header, old: Order, e: ReplaceOrder) -> bool
+    ensures { λ r. ⌜ r ≡ badBesidePrice h old e ⌝ }
 {
-    let cross = old.details.kept.cross;
-    let floor = gone(old.shares);
-    if bad_shares(h, e.shares) {
-        return true;
-    }
-    if e.shares.0 <= floor.0 {
-        return true;
-    }
-    let new_open = Removed(e.shares.0 - floor.0);
-    bad_price(e.price, cross)
-        | bad_display(e.display, cross)
-        | bad_minimum(e.minimum, e.time, new_open)
+    let minimum = e.minimum;
+    let new_open = less_gone(e.shares, old.shares);
+    bad_shares(h, e.shares)
+        | !gone_is_below(old.shares, e.shares)
+        | bad_display(e.display, old.details.kept.cross)
+        | bad_minimum(minimum, e.time, new_open)
 }
 
-fn replacement_order(h: Header, old: Order, e: ReplaceOrder) -> Order
-    ensures { λ r. ⌜ r ≡ replacementOrder h old e ⌝ }
+fn replacement_order(h: Header, old: Order, e: ReplaceOrder, price: Price) -> Order
+    ensures { λ r. ⌜ r ≡ replacementOrder h old e price ⌝ }
 {
     let token = e.replacement;
     let shares = with_liable(old.shares, e.shares);
     let kept = old.details.kept;
-    let terms = accepted_terms(e.price, e.time, e.display, e.sweep, e.minimum);
+    let minimum = e.minimum;
     let previous = e.existing;
     let details = Details {
         kept,
-        terms,
+        terms: accepted_terms(price, e.time, e.display, e.sweep, minimum),
         reference: h.reference,
         previous,
         spare: 0,
@@ -72,34 +66,38 @@ fn replacement_order(h: Header, old: Order, e: ReplaceOrder) -> Order
 }
 
 // A replacement with bad details is a cancel of the whole order: its own token stays free.
+fn canceled_whole(old: Order) -> Decision
+    ensures { λ r. ⌜ r ≡ canceledWhole old ⌝ }
+{
+    let by = open_shares(old.shares);
+    changing(killed(old), Notice::Canceled(by, b'U'))
+}
+
+// Of a live order on an open day that is not late.
 fn replace_open(h: Header, old: Order, e: ReplaceOrder) -> Decision
-    requires { ⌜ Open (old .shares) ⌝ }
     ensures { λ r. ⌜ r ≡ replaceOpen h old e ⌝ }
 {
-    let end = killed(old);
-    if bad_details(h, old, e) {
-        let by = open_shares(old.shares);
-        return changing(end, Notice::Canceled(by, b'U'));
+    if bad_beside_price(h, old, e) {
+        return canceled_whole(old);
     }
-    replacing(end, replacement_order(h, old, e))
+    match Price::new(e.price, old.details.kept.cross) {
+        Priced::Good(price) => replacing(killed(old), replacement_order(h, old, e, price)),
+        Priced::Bad => canceled_whole(old),
+    }
 }
 
 // `old` is what the existing token means, `found` what the replacement token means so far.
 pub fn replace(h: Header, old: Order, found: Order, e: ReplaceOrder) -> Decision
-    requires { ⌜ Sane old ⌝ }
     ensures { λ r. ⌜ r ≡ replaceRule h old found e ⌝ }
 {
-    if !is_live(old) {
-        return refused(Answer::Ignored);
-    }
-    if is_used(found) {
+    if !is_live(old) | is_used(found) {
         return refused(Answer::Ignored);
     }
     let token = e.replacement;
     if !is_open_day(h) {
         return rejecting(token, b'C');
     }
-    if is_late(old) {
+    if is(old, Flag::Late) {
         return rejecting(token, b'R');
     }
     replace_open(h, old, e)

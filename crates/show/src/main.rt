@@ -1,70 +1,65 @@
-// Prints a raw outbound stream from standard input, or with the argument `tape` a tape, as one readable line a message.
+// Prints a raw outbound stream from standard input, or by the word `tape` a tape, as one readable line a message. What is no message, and all that
+// follows it, is counted at the end.
+//
+// Each line is written before the next read waits. Where nobody reads standard output any longer the system ends the program; where it is full or
+// closed the program says so on standard error and stops.
 mod entries;
 mod stream;
 mod words;
 
-use crate::entries::entry_size;
+ghost use Prim.Native.Nat.{_-_, _≤_};
 use crate::entries::show_entry;
-use crate::stream::message_size;
 use crate::stream::show_message;
 use crate::words::end_line;
 use crate::words::say_number;
-use feed::held::Held;
-use feed::held::past;
-use feed::held::unread;
-use feed::refill::ready;
+use feed::Feed;
+use feed::begin;
+use feed::next;
+use feed::over;
+use feed::piece;
+use feed::pieces::Pieces;
+use feed::rest;
+use libc::STDERR_FILENO;
 
-// What is carried from line to line.
-struct Run {
-    held: Held,
-    going: bool,
+fn show_piece(pieces: Pieces, s: &[u8]) -> bool {
+    match pieces {
+        Pieces::Entries => show_entry(s),
+        Pieces::Messages => show_message(s),
+    }
 }
 
-// Shows what stands at the front, and answers its length; 0 where nothing whole does.
-fn show_front(of_tape: bool, bytes: &[u8]) -> usize {
-    if of_tape {
-        let n = entry_size(bytes);
-        if n <= bytes.len() {
-            show_entry(&bytes[0..n]);
-        }
-        return n;
-    }
-    let n = message_size(bytes);
-    if n <= bytes.len() {
-        show_message(&bytes[0..n]);
-    }
-    n
-}
-
-// One line. Bytes that begin with nothing whole end the run, and are counted.
-fn turn(of_tape: bool, buffer: &mut [u8], before: Held) -> Run {
-    let held = ready(buffer, before);
-    let bytes = unread(buffer, held);
-    let n = show_front(of_tape, bytes);
-    if (n == 0) & (0 < bytes.len()) {
-        say_number(b"left over: ", bytes.len() as u64);
+// How many bytes are left over where no piece can follow.
+fn show_rest(n: u64) {
+    if 0 < n {
+        say_number(b"left over: ", n);
         end_line();
     }
-    Run {
-        held: past(held, n),
-        going: 0 < n,
+}
+
+// One piece, or what is left over.
+fn turn(pieces: Pieces, buffer: &mut [u8], before: Feed) -> Feed
+    ensures { λ r. ⌜ r .left ≤ before .left - 1 ⌝ }
+{
+    let feed = next(pieces, buffer, before);
+    if feed.left == 0 {
+        show_rest(rest(buffer, feed));
+        return feed;
+    }
+    if show_piece(pieces, piece(buffer, feed)) {
+        return feed;
+    }
+    io::write_all(STDERR_FILENO, b"show: standard output takes no more\n");
+    over(feed)
+}
+
+fn show_all(pieces: Pieces, buffer: &mut [u8]) {
+    let mut feed = begin();
+    while 0 < feed.left {
+        feed = turn(pieces, buffer, feed);
     }
 }
 
-// A proved loop has to end, and nothing says that the input does: the turns are counted down from more than any input has.
-fn show_all(of_tape: bool, buffer: &mut [u8]) {
-    let mut turns = u64::MAX;
-    let mut held = Held { at: 0, end: 0 };
-    let mut going = true;
-    while 0 < turns && going {
-        let run = turn(of_tape, buffer, held);
-        held = run.held;
-        going = run.going;
-        turns -= 1;
-    }
-}
-
-// Whether the first argument is `tape`.
+// Whether the first word is `tape`.
 fn asked_for_tape() -> bool {
     let mut word = [0u8; 16];
     let n = os::arg(1, &mut word);
@@ -73,5 +68,14 @@ fn asked_for_tape() -> bool {
 
 fn main() {
     let mut buffer = [0u8; 4_096];
-    show_all(asked_for_tape(), &mut buffer);
+    let words = os::arg_count();
+    if words < 2 {
+        show_all(Pieces::Messages, &mut buffer);
+        return;
+    }
+    if asked_for_tape() & (words == 2) {
+        show_all(Pieces::Entries, &mut buffer);
+        return;
+    }
+    io::write_all(STDERR_FILENO, b"show: the one word is tape\n");
 }

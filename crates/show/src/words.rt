@@ -1,19 +1,30 @@
 // The pieces of a line.
 ghost use Prim.Native.Nat.{_≤_};
+use answers::Answer;
+use answers::number;
 use libc::STDOUT_FILENO;
 use listing::clock::clock;
+use listing::price::behind_point;
 
 pub fn say(words: &[u8]) {
     io::write_all(STDOUT_FILENO, words);
 }
 
-pub fn end_line() {
-    say(b"\n");
+// Every line ends here. Where standard output takes no more, so much as the line's end, the answer is false and the program stops.
+pub fn end_line() -> bool {
+    io::write_all(STDOUT_FILENO, b"\n")
 }
 
 pub fn say_number(name: &[u8], n: u64) {
     say(name);
     io::print_decimal(STDOUT_FILENO, n);
+}
+
+// Four digits stand behind the point.
+pub fn say_price(price: u32) {
+    say_number(b" price ", price as u64 / 10_000);
+    say(b".");
+    say(&behind_point(price));
 }
 
 // Letters and texts stand in quotes, since a space is one of them. Fields that nobody judges may hold any byte; what a terminal would act on is shown as a question mark.
@@ -69,8 +80,8 @@ pub fn say_head(name: &[u8], stamp: u64, token: [u8; 14]) {
     say_token(b" ", token);
 }
 
-pub fn say_refused(name: &[u8], answer: u8) {
+pub fn say_refused(name: &[u8], answer: Answer) -> bool {
     say(name);
-    say_number(b" refused with ", answer as u64);
-    end_line();
+    say_number(b" refused with ", number(answer) as u64);
+    end_line()
 }

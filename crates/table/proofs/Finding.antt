@@ -1,24 +1,19 @@
 -- The law of find: a token means its first used record, whatever order the code compares in. Assumes nothing.
-use mathlib.Core.Path.{_≡_, refl, sym, ap, _∙_, subst}
-use mathlib.Core.Bool.{Bool, true, false, false≢true}
-use mathlib.Core.List.{List}
-use Prim.Native.Nat.{ℕ, zero, suc, _+_, _≤_, _<_}
-use native.Mathlib.Decide.{decLt, ℕ-discrete}
-use native.Mathlib.Omega.{arith}
+use Rattle.octets.proofs.Proving.{Bool, List, _+_, _<_, _∙_, _≡_, _≤_, ap, arith, decLt, false, false≢true, refl, subst, suc, sym, true, zero, ℕ, ℕ-discrete}
 use Rattle.octets.specs.Choice.{pick}
 use Rattle.octets.specs.Bytes.{same}
 use Rattle.octets.proofs.Below.{same-true, same-self}
-use Rattle.table.specs.Table.{header, orderAt, placeFrom, placeOf}
+use Rattle.table.specs.Table.{usedIn, orderAt, placeFrom, placeOf}
 
 -- record i is used and has the token, and none before it has
 pub record FirstWith (t token : List ℕ) (i : ℕ) : Type 0 where
-  pub used : i < header t .used
+  pub used : i < usedIn t
   pub has : orderAt t i .token ≡ token
   pub first : (j : ℕ) → j < i → orderAt t j .token ≡ token → ⊥
 
 -- no used record has the token
 abbrev pub NoneWith : List ℕ → List ℕ → Type 0
-NoneWith t token = (j : ℕ) → j < header t .used → orderAt t j .token ≡ token → ⊥
+NoneWith t token = (j : ℕ) → j < usedIn t → orderAt t j .token ≡ token → ⊥
 
 module _ (t token : List ℕ) where
   step : (left i : ℕ) (b : Bool) → same (orderAt t i .token) token ≡ b → placeFrom t token (suc left) i ≡ pick b i (placeFrom t token left (i + 1))
@@ -53,17 +48,17 @@ module _ (t token : List ℕ) where
             ];
           }
 
-  place : From (header t .used) 0 (placeOf t token)
+  place : From (usedIn t) 0 (placeOf t token)
   unfolding placeOf
-  place = from (header t .used) 0
+  place = from (usedIn t) 0
 
-  pub place-within : placeOf t token ≤ header t .used
+  pub place-within : placeOf t token ≤ usedIn t
   place-within = omega (arith, place .within)
 
-  pub found : placeOf t token < header t .used → FirstWith t token (placeOf t token)
+  pub found : placeOf t token < usedIn t → FirstWith t token (placeOf t token)
   found h = record { used = h; has = place .has (omega arith); first = λ j l. place .before j (omega arith) l }
 
-  pub not-found : header t .used ≤ placeOf t token → NoneWith t token
+  pub not-found : usedIn t ≤ placeOf t token → NoneWith t token
   not-found h j l = place .before j (omega arith) (omega arith)
 
   -- and there is no other answer
@@ -74,9 +69,9 @@ module _ (t token : List ℕ) where
         | no g ↦ elim (decLt i (placeOf t token)) [ yes l ↦ absurd (place .before i (omega arith) l (f .has)) | no g′ ↦ omega arith ]
       ]
 
-  pub not-found-only : NoneWith t token → placeOf t token ≡ header t .used
+  pub not-found-only : NoneWith t token → placeOf t token ≡ usedIn t
   not-found-only none =
-      elim (decLt (placeOf t token) (header t .used)) [
+      elim (decLt (placeOf t token) (usedIn t)) [
         | yes l ↦ absurd (none (placeOf t token) l (place .has (omega arith)))
         | no g ↦ omega (arith, place-within)
       ]

@@ -1,9 +1,5 @@
 pub mod Opened
-pub mod Flags
-pub mod Runs
-pub mod Judged
 pub mod Tokens
-pub mod Spelled
 pub mod Stored
 pub mod Soundness
 pub mod Keeps

@@ -1,17 +1,11 @@
 -- A record's token against another, in the order in which the code compares: the last four bytes first, the last of all at the front, then
 -- the first ten. Assumes nothing.
-use mathlib.Core.Path.{_≡_, sym, ap, _∙_}
-use mathlib.Core.Bool.{Bool, true, false, _&&_, and-assoc, and-comm}
-use mathlib.Core.List.{List}
-use Prim.Native.Nat.{ℕ, _+_, _≤_}
-use lib.ListN.{length, drop, getD}
-use lib.Seq.{getD-take, getD-drop}
-use lib.Dec.{eqb}
+use Rattle.octets.proofs.Proving.{Bool, List, _&&_, _+_, _∙_, _≡_, _≤_, and-assoc, and-comm, ap, drop, eqb, false, getD, getD-drop, getD-take, length, sym, true, ℕ}
 use Rattle.octets.specs.Choice.{allBelow}
 use Rattle.octets.specs.Bytes.{part, same}
 use Rattle.octets.proofs.Laws.{length-part}
 use Rattle.octets.proofs.Below.{all-same, same-below}
-use Rattle.table.specs.Order.{orderOf}
+use Rattle.orders.specs.Order.{orderOf}
 
 module _ (r token : List ℕ) where
   -- byte k of the record's token is the other's

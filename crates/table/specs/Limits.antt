@@ -1,58 +1,8 @@
--- The numbers of the table (Table and outbox), each once.
+-- How many records a table has (Table and outbox).
 use Prim.Native.Nat.{ℕ}
-
-abbrev pub headerSize : ℕ
-headerSize = 64
-
-abbrev pub recordSize : ℕ
-recordSize = 80
 
 abbrev pub fewestRecords : ℕ
 fewestRecords = 1
 
 abbrev pub mostRecords : ℕ
 mostRecords = 800
-
-abbrev pub dayBefore : ℕ
-dayBefore = 0
-
-abbrev pub dayOpen : ℕ
-dayOpen = 1
-
-abbrev pub dayClosed : ℕ
-dayClosed = 2
-
-abbrev pub fewestFirms : ℕ
-fewestFirms = 1
-
-abbrev pub mostFirms : ℕ
-mostFirms = 8
-
-abbrev pub firmSize : ℕ
-firmSize = 4
-
-abbrev pub firstReference : ℕ
-firstReference = 1
-
-abbrev pub endOfReferences : ℕ
-endOfReferences = 1_000_000_000_000_000_000
-
-abbrev pub lowestThreshold : ℕ
-lowestThreshold = 1
-
-abbrev pub highestThreshold : ℕ
-highestThreshold = 1_000_000
-
--- the bits of a record's flags
-abbrev pub lateBit : ℕ
-lateBit = 1
-
-abbrev pub pendingBit : ℕ
-pendingBit = 2
-
-abbrev pub rejectSentBit : ℕ
-rejectSentBit = 4
-
--- liable at most 999,999
-abbrev pub mostShares : ℕ
-mostShares = 999_999

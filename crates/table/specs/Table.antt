@@ -1,16 +1,22 @@
 -- The table: its bytes, when they are sound, which record a token means, and how a value is stored (Table and outbox).
-use Prim.Native.Nat.{ℕ, zero, suc, _+_, _-_, _*_, _/_, _≤_}
+use Prim.Native.Nat.{ℕ, zero, suc, _+_, _-_, _*_, _/_, _<_, min}
 use mathlib.Core.Bool.{Bool, _&&_}
 use mathlib.Core.List.{List, [], _∷_}
 use lib.ListN.{length, take}
 use lib.Dec.{leb, ltb, eqb}
 use Rattle.octets.specs.Choice.{pick, every, allBelow}
-use Rattle.table.specs.Limits.{headerSize, recordSize, fewestRecords, mostRecords}
-use Rattle.octets.specs.Bytes.{part, put, same}
-use Rattle.table.specs.Order.{Order, orderOf, orderBytes, noOrder, recordSound}
-use Rattle.table.specs.Header.{Header, headerOf, headerBytes, headerSound}
+use Rattle.octets.specs.Bytes.{part, put, same, zeros}
+use Rattle.header.specs.Limits.{headerSize}
+use Rattle.header.specs.Header.{headerOf, headerBytes}
+use Rattle.header.specs.declared.Header.{Header}
+use Rattle.header.specs.Sound.{headerSound}
+use Rattle.orders.specs.Limits.{recordSize}
+use Rattle.orders.specs.Order.{orderOf, orderBytes, noOrder}
+use Rattle.orders.specs.declared.order.Order.{Order}
+use Rattle.orders.specs.Sound.{recordSound}
+use Rattle.table.specs.Limits.{fewestRecords, mostRecords}
 
--- ---- places: a table is 64 + 80n bytes
+-- ---- places: a table is 64 + 80n bytes, n from 1 to 800
 
 unfoldable pub recordsIn : List ℕ → ℕ
 recordsIn t = (length t - headerSize) / recordSize
@@ -24,27 +30,31 @@ recordPlace i = headerSize + recordSize * i
 
 -- record i lies in the table
 abbrev pub HasRecord : List ℕ → ℕ → Type 0
-HasRecord t i = headerSize + recordSize * i + recordSize ≤ length t
+HasRecord t i = i < recordsIn t
 
 unfoldable pub recordBytes : List ℕ → ℕ → List ℕ
 recordBytes t i = part t (recordPlace i) recordSize
 
+-- the header's bytes; zeros where the table has none
+unfoldable pub headBytes : List ℕ → List ℕ
+headBytes t = pick (ltb (length t) headerSize) (zeros headerSize) (take headerSize t)
+
 unfoldable pub header : List ℕ → Header
-header t = headerOf (take headerSize t)
+header t = headerOf (headBytes t)
+
+-- the used records, of those that there are: a sound table has no more
+unfoldable pub usedIn : List ℕ → ℕ
+usedIn t = min (header t .used) (recordsIn t)
 
 unfoldable pub orderAt : List ℕ → ℕ → Order
 orderAt t i = orderOf (recordBytes t i)
-
--- the used records lie in the table
-abbrev pub HasUsed : List ℕ → Type 0
-HasUsed t = headerSize + recordSize * header t .used ≤ length t
 
 unfoldable pub sound : List ℕ → Bool
 sound t =
     every
     (sizeGood t
-    ∷ headerSound (take headerSize t) (recordsIn t)
-    ∷ allBelow (header t .used) (λ i. recordSound (recordBytes t i))
+    ∷ headerSound (headBytes t) (recordsIn t)
+    ∷ allBelow (usedIn t) (λ i. recordSound (recordBytes t i))
     ∷ [])
 
 -- ---- a token means its first used record
@@ -57,19 +67,19 @@ placeFrom t token (suc left) i =
     pick (same (orderAt t i .token) token) i later
 
 unfoldable pub placeOf : List ℕ → List ℕ → ℕ
-placeOf t token = placeFrom t token (header t .used) 0
+placeOf t token = placeFrom t token (usedIn t) 0
 
 -- the order at a place so found
 unfoldable pub orderFrom : List ℕ → ℕ → Order
-orderFrom t i = pick (ltb i (header t .used)) (orderAt t i) noOrder
+orderFrom t i = pick (ltb i (usedIn t)) (orderAt t i) noOrder
 
 unfoldable pub orderNamed : List ℕ → List ℕ → Order
 orderNamed t token = orderFrom t (placeOf t token)
 
--- ---- storing
+-- ---- storing: what is no part of the table is not stored
 
 unfoldable pub storeOrder : List ℕ → ℕ → Order → List ℕ
-storeOrder t i o = put t (recordPlace i) (orderBytes o)
+storeOrder t i o = pick (ltb i (recordsIn t)) (put t (recordPlace i) (orderBytes o)) t
 
 unfoldable pub storeHeader : List ℕ → Header → List ℕ
-storeHeader t h = put t 0 (headerBytes h)
+storeHeader t h = pick (leb headerSize (length t)) (put t 0 (headerBytes h)) t

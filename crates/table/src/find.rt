@@ -1,18 +1,18 @@
 // Which record a token means: the first used one that has it.
 ghost use mathlib.Core.Path.{_≡_};
-ghost use Prim.Native.Nat.{_+_, _*_, _≤_};
+ghost use Prim.Native.Nat.{_+_, _≤_};
 ghost use lib.ListN.{length, getD};
 ghost use lib.Dec.{eqb};
 ghost use Rattle.octets.specs.Choice.{allBelow};
 ghost use Rattle.octets.specs.Bytes.{same};
-ghost use Rattle.table.specs.Limits.{headerSize, recordSize};
-ghost use Rattle.table.specs.Order.{orderOf};
-ghost use Rattle.table.specs.Table.{HasUsed, placeFrom, placeOf, orderFrom};
-use crate::order::Order;
-use crate::order::no_order;
+ghost use Rattle.orders.specs.Limits.{recordSize};
+ghost use Rattle.orders.specs.Order.{orderOf};
+ghost use Rattle.table.specs.Table.{recordsIn, placeFrom, placeOf, orderFrom};
 use crate::places::order_at;
 use crate::places::record_bytes;
 use crate::places::used;
+use orders::order::Order;
+use orders::order::no_order;
 
 // The first n bytes of the record's token are this token's.
 fn token_to(r: &[u8], token: [u8; 14], n: usize) -> bool
@@ -41,7 +41,7 @@ fn has_token(r: &[u8], token: [u8; 14]) -> bool
 }
 
 fn first(table: &[u8], token: [u8; 14], n: usize) -> usize
-    requires { ⌜ headerSize + recordSize * n ≤ length (now table) ⌝ }
+    requires { ⌜ n ≤ recordsIn (now table) ⌝ }
     ensures { λ r. ⌜ r ≡ placeFrom (now (table .entry)) token n 0 ⌝ }
 {
     let mut i: usize = 0;
@@ -54,9 +54,8 @@ fn first(table: &[u8], token: [u8; 14], n: usize) -> usize
     n
 }
 
-// The token's record, or the number behind the used records where none has it.
+// The place of the token's record; the number behind the used records where none has it.
 pub fn find(table: &[u8], token: [u8; 14]) -> usize
-    requires { ⌜ HasUsed (now table) ⌝ }
     ensures { λ r. ⌜ r ≡ placeOf (now (table .entry)) token ⌝ }
 {
     first(table, token, used(table))
@@ -64,12 +63,10 @@ pub fn find(table: &[u8], token: [u8; 14]) -> usize
 
 // The order at a place that `find` gave.
 pub fn order_from(table: &[u8], i: usize) -> Order
-    requires { ⌜ HasUsed (now table) ⌝ }
     ensures { λ r. ⌜ r ≡ orderFrom (now (table .entry)) i ⌝ }
 {
     if i < used(table) {
-        order_at(table, i)
-    } else {
-        no_order()
+        return order_at(table, i);
     }
+    no_order()
 }

@@ -1,59 +1,18 @@
 // The fresh call: a table with nothing in it, from threshold and firms.
 ghost use mathlib.Core.Path.{_≡_};
-ghost use Prim.Native.Nat.{_≤_};
 ghost use lib.ListN.{length};
 ghost use Rattle.octets.specs.Bytes.{zeros};
-ghost use Rattle.table.specs.Limits.{headerSize, mostFirms};
-ghost use Rattle.table.specs.Fresh.{settingsGood, listedFirms, freshHeader, freshAnswer, freshTable};
-use crate::header::Header;
+ghost use Rattle.header.specs.Settings.{freshHeader};
+ghost use Rattle.table.specs.Table.{storeHeader};
+ghost use Rattle.table.specs.Fresh.{freshAnswer, freshTable};
 use crate::places::store_header;
-use crate::settings::Settings;
-use crate::sound::firms_shaped;
 use crate::sound::size_good;
 use answers::Answer;
-use wire::shares::Total;
-
-fn settings_good(settings: Settings) -> bool
-    ensures { λ r. ⌜ r ≡ settingsGood settings ⌝ }
-{
-    let threshold = settings.threshold;
-    let count = settings.count as usize;
-    if (1 <= threshold) & (threshold <= 1_000_000) & (1 <= count) & (count <= 8) {
-        let firms = settings.firms;
-        firms_shaped(firms, count)
-    } else {
-        false
-    }
-}
-
-// The firms up to the count, and zeros behind them.
-fn listed(firms: [u8; 32], count: usize) -> [u8; 32]
-    requires { ⌜ count ≤ mostFirms ⌝ }
-    ensures { λ r. ⌜ r ≡ listedFirms firms count ⌝ }
-{
-    let mut kept = [0u8; 32];
-    let end = 4 * count;
-    bytes::copy(&firms[0..end], &mut kept);
-    kept
-}
-
-fn fresh_header(settings: Settings) -> Header
-    requires { ⌜ settings .count ≤ mostFirms ⌝ }
-    ensures { λ r. ⌜ r ≡ freshHeader settings ⌝ }
-{
-    let given = settings.firms;
-    let firms = listed(given, settings.count as usize);
-    let threshold = Total(settings.threshold);
-    Header {
-        day: 0,
-        count: settings.count,
-        used: 0,
-        last: 0,
-        reference: 1,
-        threshold,
-        firms,
-    }
-}
+use answers::first_of;
+use answers::is_done;
+use header::settings::Settings;
+use header::settings::fresh_header;
+use header::settings::settings_good;
 
 fn clear(table: &mut [u8])
     ensures { λ _. ⌜ now (table .exit) ≡ zeros (length (now (table .entry))) ⌝ }
@@ -65,18 +24,31 @@ fn clear(table: &mut [u8])
     }
 }
 
+// 10 for a bad length, then 3 for bad settings.
+fn fresh_answer(table: &[u8], settings: Settings) -> Answer
+    ensures { λ r. ⌜ r ≡ freshAnswer (now (table .entry)) settings ⌝ }
+{
+    first_of(
+        !size_good(table),
+        Answer::NotSound,
+        first_of(!settings_good(settings), Answer::BadField, Answer::Done),
+    )
+}
+
+// Zeros, and the header over them.
+fn begin(table: &mut [u8], settings: Settings)
+    ensures { λ _. ⌜ now (table .exit) ≡ storeHeader (zeros (length (now (table .entry)))) (freshHeader settings) ⌝ }
+{
+    clear(table);
+    store_header(table, fresh_header(settings));
+}
+
 pub fn fresh(table: &mut [u8], settings: Settings) -> Answer
     ensures { λ r. ⌜ (r ≡ freshAnswer (now (table .entry)) settings) × (now (table .exit) ≡ freshTable (now (table .entry)) settings) ⌝ }
 {
-    if size_good(table) {
-        if settings_good(settings) {
-            clear(table);
-            store_header(table, fresh_header(settings));
-            Answer::Done
-        } else {
-            Answer::BadField
-        }
-    } else {
-        Answer::NotSound
+    let answer = fresh_answer(table, settings);
+    if is_done(answer) {
+        begin(table, settings);
     }
+    answer
 }

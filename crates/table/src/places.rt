@@ -1,47 +1,78 @@
-// Where things stand in the table: the header's part and a record's, and the values in them. Every byte of a table is reached through here.
+// Where things stand in the table: the header's part and a record's, and the values in them. A caller need not check that they are there: what is
+// no part of the table reads as nothing, and is not stored.
 ghost use mathlib.Core.Path.{_≡_};
-ghost use Prim.Native.Nat.{_≤_};
-ghost use lib.ListN.{length, take};
-ghost use Rattle.table.specs.Limits.{headerSize, recordSize};
-ghost use Rattle.table.specs.Table.{HasRecord, recordBytes, header, orderAt, storeOrder, storeHeader};
-use crate::header::Header;
-use crate::header::header_of;
-use crate::header::put_header;
-use crate::order::Order;
-use crate::record::order_of;
-use crate::record::put_order;
+ghost use Prim.Native.Nat.{_+_, _≤_};
+ghost use lib.ListN.{length};
+ghost use Rattle.octets.specs.Bytes.{zeros};
+ghost use Rattle.header.specs.Limits.{headerSize};
+ghost use Rattle.orders.specs.Limits.{recordSize};
+ghost use Rattle.table.specs.Table.{recordsIn, recordPlace, HasRecord, headBytes, recordBytes, header, usedIn, orderAt, storeOrder, storeHeader};
+use header::HEADER_SIZE;
+use header::Header;
+use header::header_of;
+use header::put_header;
+use octets::least;
+use orders::order::Order;
+use orders::record::RECORD_SIZE;
+use orders::record::order_of;
+use orders::record::put_order;
 
-pub fn head(table: &[u8]) -> &[u8]
-    requires { ⌜ headerSize ≤ length (now table) ⌝ }
-    ensures { λ r. ⌜ (now r ≡ take headerSize (now (table .entry))) × (length (now r) ≡ headerSize) ⌝ }
+// How many records the table has room for.
+pub fn records_in(table: &[u8]) -> usize
+    ensures { λ r. ⌜ r ≡ recordsIn (now (table .entry)) ⌝ }
 {
-    &table[0..64]
+    if table.len() < HEADER_SIZE {
+        return 0;
+    }
+    (table.len() - HEADER_SIZE) / RECORD_SIZE
 }
 
-pub fn record_bytes(table: &[u8], i: usize) -> &[u8]
+// The header's bytes; the blank ones, which are zeros, where the table is too short to have any.
+pub(crate) fn head_bytes<'a>(table: &'a [u8], blank: &'a [u8; HEADER_SIZE]) -> &'a [u8]
+    requires { ⌜ now blank ≡ zeros headerSize ⌝ }
+    ensures { λ r. ⌜ (now r ≡ headBytes (now (table .entry))) × (length (now r) ≡ headerSize) ⌝ }
+{
+    if table.len() < HEADER_SIZE {
+        return blank;
+    }
+    &table[0..HEADER_SIZE]
+}
+
+// Where record i begins; all of it lies in the table.
+fn record_place(table: &[u8], i: usize) -> usize
+    requires { ⌜ HasRecord (now table) i ⌝ }
+    ensures { λ r. ⌜ (r ≡ recordPlace i) × (r + recordSize ≤ length (now (table .entry))) ⌝ }
+{
+    HEADER_SIZE + RECORD_SIZE * i
+}
+
+pub(crate) fn record_bytes(table: &[u8], i: usize) -> &[u8]
     requires { ⌜ HasRecord (now table) i ⌝ }
     ensures { λ r. ⌜ (now r ≡ recordBytes (now (table .entry)) i) × (length (now r) ≡ recordSize) ⌝ }
 {
-    let place = 64 + 80 * i;
-    &table[place..place + 80]
+    let place = record_place(table, i);
+    &table[place..place + RECORD_SIZE]
 }
 
 pub fn header(table: &[u8]) -> Header
-    requires { ⌜ headerSize ≤ length (now table) ⌝ }
     ensures { λ r. ⌜ r ≡ header (now (table .entry)) ⌝ }
 {
-    header_of(head(table))
+    let blank = [0u8; HEADER_SIZE];
+    header_of(head_bytes(table, &blank))
 }
 
-// How many records are used; asked by itself since judging and finding need no more of the header.
+// How many records are used, of those that there are; asked by itself since judging and finding need no more of the header.
 pub fn used(table: &[u8]) -> usize
-    requires { ⌜ headerSize ≤ length (now table) ⌝ }
-    ensures { λ r. ⌜ r ≡ header (now (table .entry)) .used ⌝ }
+    ensures { λ r. ⌜ r ≡ usedIn (now (table .entry)) ⌝ }
 {
-    octets::be32(head(table), 4) as usize
+    let blank = [0u8; HEADER_SIZE];
+    least(
+        octets::be32(head_bytes(table, &blank), 4) as usize,
+        records_in(table),
+    )
 }
 
-pub fn order_at(table: &[u8], i: usize) -> Order
+pub(crate) fn order_at(table: &[u8], i: usize) -> Order
     requires { ⌜ HasRecord (now table) i ⌝ }
     ensures { λ r. ⌜ r ≡ orderAt (now (table .entry)) i ⌝ }
 {
@@ -49,16 +80,18 @@ pub fn order_at(table: &[u8], i: usize) -> Order
 }
 
 pub fn store_order(table: &mut [u8], i: usize, o: Order)
-    requires { ⌜ HasRecord (now table) i ⌝ }
     ensures { λ _. ⌜ now (table .exit) ≡ storeOrder (now (table .entry)) i o ⌝ }
 {
-    let place = 64 + 80 * i;
-    put_order(&mut table[place..place + 80], o);
+    if i < records_in(table) {
+        let place = record_place(table, i);
+        put_order(&mut table[place..place + RECORD_SIZE], o);
+    }
 }
 
 pub fn store_header(table: &mut [u8], h: Header)
-    requires { ⌜ headerSize ≤ length (now table) ⌝ }
     ensures { λ _. ⌜ now (table .exit) ≡ storeHeader (now (table .entry)) h ⌝ }
 {
-    put_header(&mut table[0..64], h);
+    if HEADER_SIZE <= table.len() {
+        put_header(&mut table[0..HEADER_SIZE], h);
+    }
 }

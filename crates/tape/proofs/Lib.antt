@@ -1,4 +1,3 @@
 pub mod Opened
-pub mod Lengths
-pub mod Judged
+pub mod Formed
 pub mod Unique

@@ -1,19 +1,23 @@
--- Every promise of the tape settles its result. Assumes nothing.
-use contract.Lifetimes.{Lfts}
-use Rattle.octets.proofs.Settles.{Settles, one-result}
-use Rattle.tape.proofs.judging.judge.Reads as judge
-use Rattle.tape.proofs.cutting.cut_at.Reads as cut-at
-use Rattle.tape.proofs.kinds.length_of.Reads as length-of
-use Rattle.tape.proofs.kinds.kind_of.Reads as kind-of
+-- Every promise settles its result: two results that a public function's contract allows are equal. Assumes nothing.
+use Rattle.octets.proofs.Settles.{Settled, _and_, _also_, settled}
+use Rattle.tape.proofs as tape
 
-pub judge-unique : (κs : Lfts 1) (a : _) → Settles (judge.Post κs a) (λ z e. z)
-judge-unique κs a z z′ e e′ p p′ = one-result p p′
+pub cutting-unique : Settled tape.cutting.cut_at.Reads.Post
+cutting-unique κs a = settled
 
-pub cut-at-unique : (κs : Lfts 1) (a : _) → Settles (cut-at.Post κs a) (λ z e. z)
-cut-at-unique κs a z z′ e e′ p p′ = one-result p p′
+pub judging-unique : Settled tape.judging.judge.Reads.Post
+judging-unique κs a = settled
 
-pub length-of-unique : (κs : Lfts 0) (a : _) → Settles (length-of.Post κs a) (λ z e. z)
-length-of-unique κs a z z′ e e′ p p′ = one-result p p′
+pub kinds-unique : Settled tape.kinds.kind_by.Reads.Post and Settled tape.kinds.kind_of.Reads.Post
+    and Settled tape.kinds.length_of.Reads.Post and Settled tape.kinds.entry_length.Reads.Post
+kinds-unique = (λ κs a. settled) also (λ κs a. settled) also (λ κs a. settled) also (λ κs a. settled)
 
-pub kind-of-unique : (κs : Lfts 1) (a : _) → Settles (kind-of.Post κs a) (λ z e. z)
-kind-of-unique κs a z z′ e e′ p p′ = one-result p p′
+pub reading-unique : Settled tape.reading.stamp_of.Reads.Post and Settled tape.reading.names_order.Reads.Post
+    and Settled tape.reading.token_of.Reads.Post and Settled tape.reading.execution_of.Reads.Post
+    and Settled tape.reading.book_cancel_of.Reads.Post and Settled tape.reading.self_match_of.Reads.Post
+    and Settled tape.reading.priority_of.Reads.Post and Settled tape.reading.system_of.Reads.Post
+    and Settled tape.reading.enter_of.Reads.Post and Settled tape.reading.replace_of.Reads.Post
+    and Settled tape.reading.cancel_of.Reads.Post and Settled tape.reading.modify_of.Reads.Post
+reading-unique = (λ κs a. settled) also (λ κs a. settled) also (λ κs a. settled) also (λ κs a. settled) also (λ κs a. settled)
+    also (λ κs a. settled) also (λ κs a. settled) also (λ κs a. settled) also (λ κs a. settled) also (λ κs a. settled)
+    also (λ κs a. settled) also (λ κs a. settled)

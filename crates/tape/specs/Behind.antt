@@ -1,13 +1,50 @@
--- The two fields that open an entry's body, as places: what the judging code has seen when it comes to the fields behind them.
-use Prim.Native.Nat.{ℕ}
-use mathlib.Core.List.{List}
-use Rattle.octets.specs.Bytes.{part}
-use Rattle.wire.specs.Limits.{stampEnd, tokenSize}
-use Rattle.wire.specs.Layout.{badPlace, below, legalToken, place}
+-- What is judged behind an entry's stamp, by kind. This is about inner functions: that each kind's layout judges just this is proved.
+use Prim.Native.Nat.{ℕ, _+_, _<_, _≤_}
+use mathlib.Core.List.{List, [], _∷_}
+use Rattle.answers.specs.declared.Answer.{Answer}
+use Rattle.answers.specs.declared.Answer.the-variants.{Done, BadField}
+use Rattle.wire.specs.Layout.{Field, tokenAt, liquidityAt, bookReasonAt, systemEventAt, limitPriceAt}
+use Rattle.wire.specs.Messages.{messageLayout, fieldsFrom}
 use Rattle.wire.specs.declared.places.Place.{Place}
+use Rattle.wire.specs.declared.places.Place.the-variants.{Nowhere, At}
+use Rattle.tape.specs.Kinds.{Kind, Enters, Replaces, Cancels, Modifies, Executes, BookCancels, SelfMatches, Prioritises, TurnsLate, EndsCross, TellsDay, Unknown}
+pub use Rattle.tape.specs.declared.judging.Behind.{Behind}
+pub use Rattle.tape.specs.declared.judging.Behind.the-variants.{Message, Token, Flag, Reason, Price, Event, Nothing}
 
-unfoldable pub badStamp : List ℕ → Place
-badStamp s = place (badPlace (below stampEnd) 1 (part s 1 8))
+abbrev pub behindOf : Kind → Behind
+behindOf Enters = Message 0
+behindOf Replaces = Message 1
+behindOf Cancels = Message 2
+behindOf Modifies = Message 3
+behindOf Executes = Flag 31
+behindOf BookCancels = Reason 27
+behindOf SelfMatches = Flag 35
+behindOf Prioritises = Price
+behindOf TurnsLate = Token
+behindOf EndsCross = Token
+behindOf TellsDay = Event
+behindOf Unknown = Nothing
 
-unfoldable pub badToken : List ℕ → Place
-badToken s = place (badPlace legalToken 9 (part s 9 tokenSize))
+abbrev pub judgedFields : Behind → List Field
+judgedFields (Message k) = fieldsFrom 8 k
+judgedFields Token = tokenAt 9 ∷ []
+judgedFields (Flag at) = tokenAt 9 ∷ liquidityAt at ∷ []
+judgedFields (Reason at) = tokenAt 9 ∷ bookReasonAt at ∷ []
+judgedFields Price = tokenAt 9 ∷ limitPriceAt 23 ∷ []
+judgedFields Event = systemEventAt 9 ∷ []
+judgedFields Nothing = []
+
+-- they lie in an entry of n bytes
+abbrev pub Within : Behind → ℕ → Type 0
+Within (Message k) n = (k < 4) × (messageLayout k .size + 8 ≤ n)
+Within Token n = 23 ≤ n
+Within (Flag at) n = (23 ≤ n) × (at < n)
+Within (Reason at) n = (23 ≤ n) × (at < n)
+Within Price n = 27 ≤ n
+Within Event n = 9 < n
+Within Nothing n = Unit {0}
+
+-- what a first bad place answers
+abbrev pub answerFor : Place → Answer
+answerFor Nowhere = Done
+answerFor (At at) = BadField

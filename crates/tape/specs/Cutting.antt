@@ -4,7 +4,7 @@ use mathlib.Core.List.{List}
 use lib.ListN.{length, getD}
 use lib.Dec.{leb, ltb, eqb}
 use Rattle.octets.specs.Choice.{firstOf_, _⇒_⨾_}
-use Rattle.tape.specs.Entries.{entryLength}
+use Rattle.tape.specs.Kinds.{entryLength}
 pub use Rattle.tape.specs.declared.cutting.Cut.{Cut}
 pub use Rattle.tape.specs.declared.cutting.Cut.the-variants.{Whole, Short, Unknown, End}
 

@@ -1,3 +1,4 @@
+pub mod Kinds
 pub mod Entries
 pub mod Cutting
 pub mod Behind

@@ -1,5 +1,5 @@
 // Cutting a tape into its entries: the kind byte says where an entry ends.
-use crate::kinds::length_of;
+use crate::kinds::entry_length;
 ghost use mathlib.Core.Path.{_≡_};
 ghost use Rattle.tape.specs.Cutting.{cutAt};
 
@@ -22,7 +22,7 @@ pub fn cut_at(tape: &[u8], at: usize) -> Cut
     if tape.len() <= at {
         return Cut::End;
     }
-    let length = length_of(tape[at]);
+    let length = entry_length(tape[at]);
     if length == 0 {
         return Cut::Unknown;
     }

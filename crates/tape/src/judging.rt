@@ -1,87 +1,110 @@
 // Judging an entry: is its kind known and its length the kind's, and if so, where does its first bad byte stand, if there is one.
+use crate::kinds::Kind;
 use crate::kinds::kind_of;
 use crate::kinds::length_of;
 use answers::Answer;
+use wire::judge::bad_inbound;
+use wire::messages::CANCEL_ORDER;
+use wire::messages::ENTER_ORDER;
+use wire::messages::MODIFY_ORDER;
+use wire::messages::REPLACE_ORDER;
 use wire::places::Place;
 use wire::places::bad_book_reason;
 use wire::places::bad_limit_price;
 use wire::places::bad_liquidity_flag;
-use wire::places::bad_side;
 use wire::places::bad_stamp;
-use wire::places::bad_sweep;
 use wire::places::bad_system_event;
 use wire::places::bad_token;
 use wire::places::earlier;
 ghost use mathlib.Core.Path.{_≡_};
 ghost use mathlib.Core.Bool.{true};
-ghost use Rattle.wire.specs.Layout.{place, earlierOf};
-ghost use Rattle.tape.specs.Entries.{kindOf, wellFormed, badPlaceOf, entryAnswer, systemEntry};
-ghost use Rattle.tape.specs.Behind.{badStamp, badToken};
+ghost use lib.ListN.{length};
+ghost use Rattle.wire.specs.Layout.{place, firstBadPlace};
+ghost use Rattle.tape.specs.Kinds.{kindOf};
+ghost use Rattle.tape.specs.Entries.{wellFormed, badPlaceOf, entryAnswer};
+ghost use Rattle.tape.specs.Behind.{behindOf, judgedFields, Within, answerFor};
 
 // 2 for a kind or a length, 3 where there is a first bad place. (Where it is, nobody asks yet.)
 pub fn judge(entry: &[u8]) -> Answer
     ensures { λ r. ⌜ r ≡ entryAnswer (now (entry .entry)) ⌝ }
 {
-    let length = length_of(kind_of(entry));
-    if length == 0 {
-        return Answer::Malformed;
+    let kind = kind_of(entry);
+    if well_formed(entry, kind) {
+        return answer_for(first_bad(entry, kind));
     }
-    if entry.len() != length {
-        return Answer::Malformed;
-    }
-    match first_bad(entry) {
-        Place::Nowhere => Answer::Done,
-        Place::At(_) => Answer::BadField,
-    }
+    Answer::Malformed
+}
+
+// What is no kind has length 0, and no entry has.
+fn well_formed(entry: &[u8], kind: Kind) -> bool
+    requires { ⌜ kind ≡ kindOf (now entry) ⌝ }
+    ensures { λ r. ⌜ r ≡ wellFormed (now (entry .entry)) ⌝ }
+{
+    let length = length_of(kind);
+    (length != 0) & (entry.len() == length)
 }
 
 // Every body opens with a stamp.
-fn first_bad(entry: &[u8]) -> Place
-    requires { ⌜ wellFormed (now entry) ≡ true ⌝ }
+fn first_bad(entry: &[u8], kind: Kind) -> Place
+    requires { ⌜ (kind ≡ kindOf (now entry)) × (wellFormed (now entry) ≡ true) ⌝ }
     ensures { λ r. ⌜ r ≡ place (badPlaceOf (now (entry .entry))) ⌝ }
 {
-    let stamp = bad_stamp(entry, 1);
-    earlier(stamp, bad_behind_stamp(entry))
+    earlier(bad_stamp(entry, 1), bad_behind(entry, behind_of(kind)))
 }
 
-// Behind the stamp stands a token, but for the system's code.
-fn bad_behind_stamp(entry: &[u8]) -> Place
-    requires { ⌜ wellFormed (now entry) ≡ true ⌝ }
-    ensures { λ r. ⌜ earlierOf (badStamp (now (entry .entry))) r ≡ place (badPlaceOf (now (entry .entry))) ⌝ }
-{
-    let kind = kind_of(entry);
-    if kind == b's' {
-        return bad_system_event(entry, 9);
-    }
-    let token = bad_token(entry, 9);
-    earlier(token, bad_behind_token(entry, kind))
+// The judged fields behind the stamp: what they are and, where that differs from kind to kind, where they stand.
+pub enum Behind {
+    // what a client sends, judged as the message that it is
+    Message(usize),
+    // a token, alone or before a flag, a reason or a price
+    Token,
+    Flag(usize),
+    Reason(usize),
+    Price,
+    // the code of a system event, and no token
+    Event,
+    Nothing,
 }
 
-fn bad_behind_token(entry: &[u8], kind: u8) -> Place
-    requires { ⌜ (wellFormed (now entry) ≡ true) × ((kind ≡ kindOf (now entry)) × (kind ≡ systemEntry .code → ⊥)) ⌝ }
-    ensures { λ r. ⌜ earlierOf (badStamp (now (entry .entry))) (earlierOf (badToken (now (entry .entry))) r) ≡ place (badPlaceOf (now (entry .entry))) ⌝ }
+fn behind_of(kind: Kind) -> Behind
+    ensures { λ r. ⌜ r ≡ behindOf kind ⌝ }
 {
-    if kind == b'O' {
-        return earlier(bad_side(entry, 23), bad_sweep(entry, 50));
+    match kind {
+        Kind::Enters => Behind::Message(ENTER_ORDER),
+        Kind::Replaces => Behind::Message(REPLACE_ORDER),
+        Kind::Cancels => Behind::Message(CANCEL_ORDER),
+        Kind::Modifies => Behind::Message(MODIFY_ORDER),
+        Kind::Executes => Behind::Flag(31),
+        Kind::BookCancels => Behind::Reason(27),
+        Kind::SelfMatches => Behind::Flag(35),
+        Kind::Prioritises => Behind::Price,
+        Kind::TurnsLate => Behind::Token,
+        Kind::EndsCross => Behind::Token,
+        Kind::TellsDay => Behind::Event,
+        Kind::Unknown => Behind::Nothing,
     }
-    if kind == b'U' {
-        return earlier(bad_token(entry, 23), bad_sweep(entry, 50));
+}
+
+fn bad_behind(entry: &[u8], behind: Behind) -> Place
+    requires { ⌜ Within behind (length (now entry)) ⌝ }
+    ensures { λ r. ⌜ r ≡ place (firstBadPlace (judgedFields behind) (now (entry .entry))) ⌝ }
+{
+    match behind {
+        Behind::Message(k) => bad_inbound(entry, 8, k),
+        Behind::Token => bad_token(entry, 9),
+        Behind::Flag(at) => earlier(bad_token(entry, 9), bad_liquidity_flag(entry, at)),
+        Behind::Reason(at) => earlier(bad_token(entry, 9), bad_book_reason(entry, at)),
+        Behind::Price => earlier(bad_token(entry, 9), bad_limit_price(entry, 23)),
+        Behind::Event => bad_system_event(entry, 9),
+        Behind::Nothing => Place::Nowhere,
     }
-    if kind == b'M' {
-        return bad_side(entry, 23);
+}
+
+fn answer_for(bad: Place) -> Answer
+    ensures { λ r. ⌜ r ≡ answerFor bad ⌝ }
+{
+    match bad {
+        Place::Nowhere => Answer::Done,
+        Place::At(_) => Answer::BadField,
     }
-    if kind == b'e' {
-        return bad_liquidity_flag(entry, 31);
-    }
-    if kind == b'c' {
-        return bad_book_reason(entry, 27);
-    }
-    if kind == b'q' {
-        return bad_liquidity_flag(entry, 35);
-    }
-    if kind == b'p' {
-        return bad_limit_price(entry, 23);
-    }
-    // X, l and f hold nothing more that is judged
-    Place::Nowhere
 }

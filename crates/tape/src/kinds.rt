@@ -1,68 +1,84 @@
 // The kinds of entry and the length that each fixes.
 ghost use mathlib.Core.Path.{_≡_};
-ghost use Prim.Native.Nat.{_≤_, _<_};
-ghost use Rattle.tape.specs.Entries.{kindOf, kindPlace, entryLength};
+ghost use Rattle.tape.specs.Kinds.{kindBy, kindOf, kindPlace, layoutOf, entryLength};
 
-// How many kinds there are.
-pub const KINDS: usize = 11;
-
-// Whole lengths, kind byte and stamp included, in the order O U X M e c q p l f s.
-pub const LENGTHS: [usize; 11] = [56, 55, 27, 28, 40, 28, 36, 27, 23, 23, 10];
-
-// Where a kind stands in that order; KINDS for a byte that is no kind.
-pub fn place_of(kind: u8) -> usize
-    ensures { λ r. ⌜ r ≡ kindPlace kind ⌝ }
-{
-    if kind == b'O' {
-        return 0;
-    }
-    if kind == b'U' {
-        return 1;
-    }
-    if kind == b'X' {
-        return 2;
-    }
-    if kind == b'M' {
-        return 3;
-    }
-    if kind == b'e' {
-        return 4;
-    }
-    if kind == b'c' {
-        return 5;
-    }
-    if kind == b'q' {
-        return 6;
-    }
-    if kind == b'p' {
-        return 7;
-    }
-    if kind == b'l' {
-        return 8;
-    }
-    if kind == b'f' {
-        return 9;
-    }
-    if kind == b's' {
-        return 10;
-    }
-    11
+// By what an entry does, in the order O U X M e c q p l f s; the last is every other byte.
+pub enum Kind {
+    Enters,
+    Replaces,
+    Cancels,
+    Modifies,
+    Executes,
+    BookCancels,
+    SelfMatches,
+    Prioritises,
+    TurnsLate,
+    EndsCross,
+    TellsDay,
+    Unknown,
 }
 
-// The length that a kind fixes; 0 for a byte that is no kind.
-pub fn length_of(kind: u8) -> usize
-    ensures { λ r. ⌜ r ≡ entryLength kind ⌝ }
+// Whole lengths, kind byte and stamp included, in that order. Bytes, because a table is copied where it is indexed.
+pub const LENGTHS: [u8; 12] = [56, 55, 27, 28, 40, 28, 36, 27, 23, 23, 10, 0];
+
+pub fn kind_by(letter: u8) -> Kind
+    ensures { λ r. ⌜ r ≡ kindBy letter ⌝ }
 {
-    let place = place_of(kind);
-    if place < KINDS { LENGTHS[place] } else { 0 }
+    match letter {
+        b'O' => Kind::Enters,
+        b'U' => Kind::Replaces,
+        b'X' => Kind::Cancels,
+        b'M' => Kind::Modifies,
+        b'e' => Kind::Executes,
+        b'c' => Kind::BookCancels,
+        b'q' => Kind::SelfMatches,
+        b'p' => Kind::Prioritises,
+        b'l' => Kind::TurnsLate,
+        b'f' => Kind::EndsCross,
+        b's' => Kind::TellsDay,
+        _ => Kind::Unknown,
+    }
 }
 
-// The kind byte of an entry; 0, which is no kind, where there is none.
-pub fn kind_of(entry: &[u8]) -> u8
+// The kind of an entry; what has no byte has no kind.
+pub fn kind_of(entry: &[u8]) -> Kind
     ensures { λ r. ⌜ r ≡ kindOf (now (entry .entry)) ⌝ }
 {
     if entry.len() == 0 {
-        return 0;
+        return Kind::Unknown;
     }
-    entry[0]
+    kind_by(entry[0])
+}
+
+fn place_of(kind: Kind) -> usize
+    ensures { λ r. ⌜ r ≡ kindPlace kind ⌝ }
+{
+    match kind {
+        Kind::Enters => 0,
+        Kind::Replaces => 1,
+        Kind::Cancels => 2,
+        Kind::Modifies => 3,
+        Kind::Executes => 4,
+        Kind::BookCancels => 5,
+        Kind::SelfMatches => 6,
+        Kind::Prioritises => 7,
+        Kind::TurnsLate => 8,
+        Kind::EndsCross => 9,
+        Kind::TellsDay => 10,
+        Kind::Unknown => 11,
+    }
+}
+
+// The length that a kind fixes; 0 for what is no kind.
+pub fn length_of(kind: Kind) -> usize
+    ensures { λ r. ⌜ r ≡ layoutOf kind .size ⌝ }
+{
+    LENGTHS[place_of(kind)] as usize
+}
+
+// The same for the kind's letter, as a driver that cuts a tape has it.
+pub fn entry_length(letter: u8) -> usize
+    ensures { λ r. ⌜ r ≡ entryLength letter ⌝ }
+{
+    length_of(kind_by(letter))
 }

@@ -20,7 +20,7 @@ use wire::shares::Removed;
 ghost use mathlib.Core.Path.{_≡_};
 ghost use Prim.Native.Nat.{_+_, _≤_};
 ghost use lib.ListN.{length};
-ghost use Rattle.tape.specs.Entries.{stampOf, tokenOf, executionOf, bookCancelOf, selfMatchOf, priorityOf, systemOf, messageIn, enterOf, replaceOf, cancelOf, modifyOf};
+ghost use Rattle.tape.specs.Entries.{stampOf, tokenEnd, namesOrder, tokenOf, executionOf, bookCancelOf, selfMatchOf, priorityOf, systemOf, messageIn, enterOf, replaceOf, cancelOf, modifyOf};
 
 // Every body opens with a stamp.
 pub fn stamp_of(entry: &[u8]) -> u64
@@ -30,9 +30,18 @@ pub fn stamp_of(entry: &[u8]) -> u64
     be64(entry, 1)
 }
 
+// Every kind but the system's has a token behind its stamp, and no entry of the system's is as long.
+pub const TOKEN_END: usize = 23;
+
+pub fn names_order(entry: &[u8]) -> bool
+    ensures { λ r. ⌜ r ≡ namesOrder (now (entry .entry)) ⌝ }
+{
+    TOKEN_END <= entry.len()
+}
+
 // The token that an entry names first: the order that it is about, and in O the new one.
 pub fn token_of(entry: &[u8]) -> [u8; 14]
-    requires { ⌜ 23 ≤ length (now entry) ⌝ }
+    requires { ⌜ tokenEnd ≤ length (now entry) ⌝ }
     ensures { λ r. ⌜ r ≡ tokenOf (now (entry .entry)) ⌝ }
 {
     bytes14_at(entry, 9)

@@ -1,14 +1,6 @@
 -- The first bad place of a list of fields: there is none exactly when every field obeys its rule, and where there is one it is the smallest
 -- offset of a bad byte. Assumes nothing.
-use mathlib.Core.Path.{_≡_, refl, sym, ap, _∙_, subst}
-use mathlib.Core.Bool.{Bool, true, false}
-use mathlib.Core.Logic.{_⊎_, ⊎-elim, inl, inr}
-use mathlib.Core.List.{List, [], _∷_, List·Memᴰ·head, List·Memᴰ·tail, List·Memᴰ·cases-cons, List·Memᴰ·not-nil}
-use mathlib.Core.Option.{Option, none, some}
-use Prim.Native.Nat.{ℕ, _+_, _≤_}
-use native.Mathlib.Omega.{arith}
-use lib.Dec.{eqb}
-use lib.ListN.{length, drop, length-take}
+use Rattle.octets.proofs.Proving.{Bool, List, List·Memᴰ·cases-cons, List·Memᴰ·head, List·Memᴰ·not-nil, List·Memᴰ·tail, Option, [], _+_, _∙_, _∷_, _≡_, _≤_, _⊎_, ap, arith, drop, eqb, false, inl, inr, length, length-take, none, refl, some, subst, sym, true, ℕ, ⊎-elim}
 use Rattle.octets.specs.Bytes.{part, numberOf}
 use Rattle.octets.specs.Choice.{among}
 use Rattle.wire.specs.Text.{tokenByte}

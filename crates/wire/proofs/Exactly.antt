@@ -1,15 +1,6 @@
 -- A reader's answers are given exactly when the paper says: 0 to the legal messages, 2 to those of another length or type, 3 to the rest.
 -- Assumes nothing.
-use mathlib.Core.Path.{_≡_, refl, sym, ap, _∙_}
-use mathlib.Core.Bool.{true}
-use mathlib.Core.Logic.{⊎-elim}
-use mathlib.Core.List.{List}
-use mathlib.Core.Option.{Option, none, some}
-use Prim.Native.Nat.{ℕ, _<_}
-use native.Mathlib.Omega.{arith}
-use lib.Dec.{eqb}
-use lib.ListN.{length, getD}
-use borrow.Author.Tests.{eqb-true, eqb-false}
+use Rattle.octets.proofs.Proving.{List, Option, _<_, _∙_, _≡_, ap, arith, eqb, eqb-false, eqb-true, getD, length, none, refl, some, sym, true, ℕ, ⊎-elim}
 use Rattle.answers.specs.declared.Answer.the-variants.{Done, Malformed, BadField}
 use Rattle.octets.specs.Bytes.{part, numberOf}
 use Rattle.wire.specs.Letters.{sides, sweeps}

@@ -1,14 +1,6 @@
 -- The search for the first byte that fails a test, once over every test: it finds none exactly when all bytes pass, and what it finds fails
 -- and is the first. Assumes nothing.
-use mathlib.Core.Path.{_≡_, refl, sym, ap}
-use mathlib.Core.Bool.{Bool}
-use mathlib.Core.Logic.{⊎-elim}
-use mathlib.Core.List.{List, [], _∷_}
-use mathlib.Core.Option.{Option, none, some}
-use Prim.Native.Nat.{ℕ, zero, suc, _+_, _≤_, _<_}
-use native.Mathlib.Omega.{arith}
-use lib.Dec.{eqb}
-use lib.ListN.{length, getD}
+use Rattle.octets.proofs.Proving.{Bool, List, Option, [], _+_, _<_, _∷_, _≡_, _≤_, ap, arith, eqb, getD, length, none, refl, some, suc, sym, zero, ℕ, ⊎-elim}
 use Rattle.octets.specs.Choice.{pick}
 use Rattle.wire.specs.Text.{tokenByte}
 use Rattle.wire.specs.Layout.{badTokenByte, nonZeroByte}

@@ -1,15 +1,6 @@
 -- The laws of layouts, once over every list of fields: lengths, values that are spelled and read again, bytes that are read and spelled
 -- again. Assumes nothing.
-use mathlib.Core.Path.{_≡_, refl, sym, ap, ap₂, _∙_}
-use mathlib.Core.Bool.{Bool, true, false}
-use mathlib.Core.List.{List, [], _∷_, _++_, append-assoc}
-use mathlib.Core.Option.{Option, none, some}
-use Prim.Native.Nat.{ℕ, zero, _+_, _≤_}
-use native.Mathlib.Omega.{arith}
-use lib.Dec.{eqb}
-use lib.ListN.{length, take, drop, getD, length-append, length-replicate, drop-of-length-le, take-append-drop}
-use lib.Seq.{take-all, take-at, drop-at, drop-drop, drop-cons}
-use borrow.Author.Tests.{eqb-true}
+use Rattle.octets.proofs.Proving.{Bool, List, Option, [], _++_, _+_, _∙_, _∷_, _≡_, _≤_, ap, append-assoc, ap₂, arith, drop, drop-at, drop-cons, drop-drop, drop-of-length-le, eqb, eqb-true, false, getD, length, length-append, length-replicate, none, refl, some, sym, take, take-all, take-append-drop, take-at, true, zero, ℕ}
 use Rattle.octets.specs.Bytes.{part, numberOf, digits, zeros}
 use Rattle.octets.proofs.Laws.{number-digits, length-digits, digits-number, length-part, part-bytes}
 use Rattle.octets.proofs.Below.{both}

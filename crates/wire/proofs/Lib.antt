@@ -1,4 +1,5 @@
 pub mod Opened
+pub mod Gathered
 pub mod Shapes
 pub mod Tokens
 pub mod Numbered
@@ -8,6 +9,10 @@ pub mod Says
 pub mod FirstNot
 pub mod BadPlaces
 pub mod Exactly
+pub mod NoneBad
+pub mod Puts
 pub mod Runs
 pub mod RoundTrips
 pub mod Sendable
+pub mod Codec
+pub mod Unique

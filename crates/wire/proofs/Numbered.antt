@@ -1,27 +1,13 @@
 -- The sixteen messages by number: the constant tables say what the layouts say, and so do the places that the judge asks about.
 -- Assumes nothing.
-use mathlib.Core.Path.{_≡_, refl, sym, ap, _∙_, subst}
-use mathlib.Core.Bool.{Bool, true, false, _||_}
-use mathlib.Core.List.{List, [], _∷_}
-use mathlib.Core.Option.{Option, none, some}
-use Prim.Native.Nat.{ℕ, zero, suc, _+_, _≤_, _<_}
+use Rattle.octets.proofs.Proving.{Bool, List, List·getD-eq-default, Option, T, [], _&&_, _+_, _<_, _||_, _∙_, _∷_, _≡_, _≤_, add-one, ap, ap₂, arith, decLt, drop, drop-cons, drop-of-length-le, eqb, eqb-true, false, getD, getD-take, le-ltb, le-of-suc-le-suc, leb, leb-true, length-take, lit<, lit≤, lt-of-le-ne, ltb, ltb-true, map, none, not-suc-le-zero, refl, some, subst, suc, sym, take, true, zero, ℕ, ℕ-discrete}
 use Prim.Native.Char.{code}
-use native.Mathlib.Nat.{le-of-suc-le-suc, not-suc-le-zero}
-use native.Mathlib.Decide.{ℕ-discrete}
-use native.Mathlib.Numerals.{add-one}
-use native.Mathlib.Omega.{arith}
-use lib.Arith.{lt-of-le-ne}
-use lib.Dec.{eqb, leb, ltb}
-use lib.ListN.{take, drop, getD, length-take, drop-of-length-le}
-use lib.Seq.{drop-cons, getD-take}
-use borrow.Author.Tests.{eqb-true, leb-true, le-ltb}
-use Rattle.octets.proofs.Below.{all-at}
+use Rattle.octets.proofs.Below.{all-at, both}
 use Rattle.octets.specs.Bytes.{part}
 use Rattle.octets.specs.Choice.{pick, allBelow}
-use Rattle.wire.specs.Letters.{sides, sweeps}
-use Rattle.wire.specs.Limits.{stampEnd}
-use Rattle.wire.specs.Layout.{Layout, Place, below, oneOf, legalToken, place, earlierOf, badPlace, orElse, firstBadPlace, layoutFor}
-use Rattle.wire.specs.Messages.{messages, noMessage, message, sizeOr0, lengthFor}
+use Rattle.wire.specs.Limits.{stampEnd, longestMessage}
+use Rattle.wire.specs.Layout.{Layout, Field, shifted, Place, Nowhere, below, legalToken, place, earlierOf, badPlace, orElse, firstBadPlace, layoutFor, unbroken, wellLaid, gapsAreZero}
+use Rattle.wire.specs.Messages.{messages, noMessage, messageLayout, sizeOr0, lengthFor}
 
 -- ---- a claim on every number below n, given one by one
 
@@ -36,6 +22,10 @@ pick-last P n k p f h (no d) = f (lt-of-le-ne (le-of-suc-le-suc h) (λ e. d (sym
 each : (P : ℕ → Type 0) (n : ℕ) → Each P n → (k : ℕ) → k < n → P k
 each P zero t k h = absurd (not-suc-le-zero h)
 each P (suc n) t k h = pick-last P n k (t .1) (each P n (t .0) k) h (ℕ-discrete n k)
+
+infixl 20 _more_
+abbrev _more_ : {A B : Type 0} → A → B → A × B
+a more b = (a, b)
 
 -- and a test that antt computes
 
@@ -60,19 +50,80 @@ pub length-fits : (k : ℕ) → k < 16 → getD lengths k 0 ≤ 80
 unfolding allBelow Tests
 length-fits k h = leb-true _ _ (tested (λ (i : ℕ). leb (getD lengths i 0) 80) 16 refl k h)
 
-pub length-is : (k : ℕ) → k < 16 → getD lengths k 0 ≡ message k .size
+pub length-is : (k : ℕ) → k < 16 → getD lengths k 0 ≡ messageLayout k .size
 unfolding allBelow Tests
-length-is k h = eqb-true _ _ (tested (λ (i : ℕ). eqb (getD lengths i 0) (message i .size)) 16 refl k h)
+length-is k h = eqb-true _ _ (tested (λ (i : ℕ). eqb (getD lengths i 0) (messageLayout i .size)) 16 refl k h)
 
-pub type-is : (k : ℕ) → k < 16 → getD types k 0 ≡ message k .code
+pub type-is : (k : ℕ) → k < 16 → getD types k 0 ≡ messageLayout k .code
 unfolding allBelow Tests
-type-is k h = eqb-true _ _ (tested (λ (i : ℕ). eqb (getD types i 0) (message i .code)) 16 refl k h)
+type-is k h = eqb-true _ _ (tested (λ (i : ℕ). eqb (getD types i 0) (messageLayout i .code)) 16 refl k h)
 
--- the messages from number `from` on and before number `to` have at least `low` bytes
-pub long : (low from to : ℕ) → allBelow to (λ (i : ℕ). ltb i from || leb low (message i .size)) ≡ true
-    → (k : ℕ) → from ≤ k → k < to → low ≤ message k .size
-unfolding Tests
-long low from to t k l h = leb-true _ _ (either _ _ (tested (λ (i : ℕ). ltb i from || leb low (message i .size)) to t k h) (le-ltb k from l))
+-- no message has a number from 16 on
+no-message : (k : ℕ) → 16 ≤ k → messageLayout k ≡ noMessage
+no-message k h = List·getD-eq-default messages noMessage {n = k} h
+
+pub no-length : (k : ℕ) → 16 ≤ k → messageLayout k .size ≡ 0
+no-length k h = ap (λ (l : Layout). l .size) (no-message k h)
+
+pub no-type : (k : ℕ) → 16 ≤ k → messageLayout k .code ≡ 0
+no-type k h = ap (λ (l : Layout). l .code) (no-message k h)
+
+pub no-message-place : (k : ℕ) (s : List ℕ) → 16 ≤ k → place (firstBadPlace (messageLayout k .fields) s) ≡ Nowhere
+unfolding firstBadPlace
+no-message-place k s h = ap (λ (l : Layout). place (firstBadPlace (l .fields) s)) (no-message k h)
+
+-- none is longer than the longest
+pub at-most-longest : (k : ℕ) → messageLayout k .size ≤ longestMessage
+at-most-longest k =
+    elim (decLt k 16) [
+      | yes h ↦ omega (arith, length-is k h, length-fits k h)
+      | no h ↦ omega (arith, no-length k (omega arith))
+    ]
+
+-- what is asked of a layout, computed once for the sixteen: its fields leave no gap, nothing is lost in those that hold nothing, and its type is
+-- a byte
+laid : Layout → Bool
+laid l = wellLaid l && (gapsAreZero (l .fields) && ltb (l .code) 256)
+
+pub well-laid : (k : ℕ) → T (ltb k 16)
+    → (wellLaid (messageLayout k) ≡ true) × ((gapsAreZero (messageLayout k .fields) ≡ true) × (messageLayout k .code < 256))
+unfolding allBelow Tests laid wellLaid unbroken gapsAreZero
+well-laid k h =
+    let a = both (wellLaid (messageLayout k)) _ (tested (λ (j : ℕ). laid (messageLayout j)) 16 refl k (lit< h)) in
+    let b = both (gapsAreZero (messageLayout k .fields)) _ (a .1) in
+    (a .0, (b .0, ltb-true (messageLayout k .code) 256 (b .1)))
+
+-- a place within message j lies within what has its length
+pub fits : {k j m n : ℕ} → k ≡ j → m ≡ messageLayout k .size → T (leb n (messageLayout j .size)) → n ≤ m
+fits e l h = rw (l, e) (lit≤ h)
+
+-- and so it does where the message stands further on
+pub fits-from : (n from : ℕ) {k j m : ℕ} → k ≡ j → messageLayout k .size + from ≤ m → T (leb n (messageLayout j .size)) → n + from ≤ m
+fits-from n from {k} {j} e l h =
+    let size : messageLayout k .size ≡ messageLayout j .size = ap (λ (i : ℕ). messageLayout i .size) e in
+    let reach : n ≤ messageLayout j .size = lit≤ h in
+    omega (arith, l, size, reach)
+
+-- every message of a client has room for a token
+pub inbound-long : (k : ℕ) → k < 4 → 15 ≤ messageLayout k .size
+unfolding allBelow Tests
+inbound-long k h = leb-true _ _ (tested (λ (i : ℕ). leb 15 (messageLayout i .size)) 4 refl k h)
+
+-- what is none of the first three is the last
+pub last-inbound : {k : ℕ} → k < 4 → (k ≡ 0 → ⊥) → (k ≡ 1 → ⊥) → (k ≡ 2 → ⊥) → k ≡ 3
+last-inbound h a b c = omega (arith, h, a, b, c)
+
+-- what stands no bytes further on stands where it stood
+pub unmoved : (fs : List Field) → map (shifted 0) fs ≡ fs
+unmoved [] = refl
+unmoved (f ∷ fs) =
+    let same : f .at + 0 ≡ f .at = omega arith in
+    ap₂ (λ (at : ℕ) (gs : List Field). record { at = at; width = f .width; form = f .form; rule = f .rule } ∷ gs) same (unmoved fs)
+
+-- the messages from number 5 on have room for a stamp and a token
+pub long : (k : ℕ) → 4 < k → k < 16 → 23 ≤ messageLayout k .size
+unfolding allBelow Tests
+long k l h = leb-true _ _ (either _ _ (tested (λ (i : ℕ). ltb i 5 || leb 23 (messageLayout i .size)) 16 refl k h) (le-ltb k 5 l))
   where
     either : (x y : Bool) → (x || y) ≡ true → x ≡ false → y ≡ true
     either true y e f = let z : _≡_ {A = ℕ} 0 1 = cc in absurd (omega arith)
@@ -82,13 +133,13 @@ long low from to t k l h = leb-true _ _ (either _ _ (tested (λ (i : ℕ). ltb i
 
 pub among-next : (k to letter : ℕ) → k < to → to ≤ 16
     → lengthFor (drop k (take to messages)) letter
-    ≡ pick (eqb (message k .code) letter) (message k .size) (lengthFor (drop (k + 1) (take to messages)) letter)
+    ≡ pick (eqb (messageLayout k .code) letter) (messageLayout k .size) (lengthFor (drop (k + 1) (take to messages)) letter)
 unfolding lengthFor layoutFor
 among-next k to letter h l =
-    let m : getD (take to messages) k noMessage ≡ message k = getD-take to messages k noMessage h in
-    let e : drop k (take to messages) ≡ message k ∷ drop (suc k) (take to messages) =
+    let m : getD (take to messages) k noMessage ≡ messageLayout k = getD-take to messages k noMessage h in
+    let e : drop k (take to messages) ≡ messageLayout k ∷ drop (suc k) (take to messages) =
     drop-cons (take to messages) k noMessage (simp length-take (omega arith)) ∙ ap (λ (x : Layout). x ∷ drop (suc k) (take to messages)) m in
-    ap (λ (ls : List Layout). sizeOr0 (layoutFor ls letter)) e ∙ rw add-one (chosen (eqb (message k .code) letter) (message k) (layoutFor (drop (suc k) (take to messages)) letter))
+    ap (λ (ls : List Layout). sizeOr0 (layoutFor ls letter)) e ∙ rw add-one (chosen (eqb (messageLayout k .code) letter) (messageLayout k) (layoutFor (drop (suc k) (take to messages)) letter))
   where
     chosen : (b : Bool) (x : Layout) (y : Option Layout) → sizeOr0 (pick b (some x) y) ≡ pick b (x .size) (sizeOr0 y)
     chosen true x y = refl
@@ -105,7 +156,7 @@ pub place-earlier : (x y : Option ℕ) → place (orElse x y) ≡ earlierOf (pla
 place-earlier none y = refl
 place-earlier (some at) y = refl
 
-or-none : (x : Option ℕ) → orElse x none ≡ x
+pub or-none : (x : Option ℕ) → orElse x none ≡ x
 or-none none = refl
 or-none (some at) = refl
 
@@ -115,94 +166,20 @@ tokenPlace at s = place (badPlace legalToken at (part s at 14))
 abbrev stampPlace : ℕ → List ℕ → Place
 stampPlace at s = place (badPlace (below stampEnd) at (part s at 8))
 
-abbrev sidePlace : ℕ → List ℕ → Place
-sidePlace at s = place (badPlace (oneOf sides) at (part s at 1))
-
-abbrev sweepPlace : ℕ → List ℕ → Place
-sweepPlace at s = place (badPlace (oneOf sweeps) at (part s at 1))
-
 -- message k's
 abbrev firstOfMessage : ℕ → List ℕ → Place
-firstOfMessage k s = place (firstBadPlace (message k .fields) s)
-
-module _ (k : ℕ) (s : List ℕ) where
-  pub enter-order-place : k ≡ 0 → firstOfMessage k s ≡ earlierOf (tokenPlace 1 s) (earlierOf (sidePlace 15 s) (sweepPlace 42 s))
-  unfolding firstBadPlace badPlace
-  enter-order-place e = rw e (simp (place-earlier, or-none))
-
-  pub replace-order-place : k ≡ 1 → firstOfMessage k s ≡ earlierOf (tokenPlace 1 s) (earlierOf (tokenPlace 15 s) (sweepPlace 42 s))
-  unfolding firstBadPlace badPlace
-  replace-order-place e = rw e (simp (place-earlier, or-none))
-
-  pub cancel-order-place : k ≡ 2 → firstOfMessage k s ≡ tokenPlace 1 s
-  unfolding firstBadPlace badPlace
-  cancel-order-place e = rw e (simp or-none)
-
-  pub modify-order-place : k ≡ 3 → firstOfMessage k s ≡ earlierOf (tokenPlace 1 s) (sidePlace 15 s)
-  unfolding firstBadPlace badPlace
-  modify-order-place e = rw e (simp (place-earlier, or-none))
-
-  pub system-event-place : k ≡ 4 → firstOfMessage k s ≡ stampPlace 1 s
-  unfolding firstBadPlace badPlace
-  system-event-place e = rw e (simp or-none)
-
-  pub replaced-place : k ≡ 6 → firstOfMessage k s ≡ earlierOf (stampPlace 1 s) (earlierOf (tokenPlace 9 s) (tokenPlace 65 s))
-  unfolding firstBadPlace badPlace
-  replaced-place e = rw e (simp (place-earlier, or-none))
+firstOfMessage k s = place (firstBadPlace (messageLayout k .fields) s)
 
 -- all others that the host sends have a stamp and a token
-pub stamp-and-token-place : (s : List ℕ) (k : ℕ) → k < 16 → 4 < k → (k ≡ 6 → ⊥) → firstOfMessage k s ≡ earlierOf (stampPlace 1 s) (tokenPlace 9 s)
+pub stamp-or-token : (s : List ℕ) (k : ℕ) → k < 16 → 4 < k → (k ≡ 6 → ⊥) → firstOfMessage k s ≡ earlierOf (stampPlace 1 s) (tokenPlace 9 s)
 unfolding firstBadPlace badPlace
-stamp-and-token-place s =
-    each (λ (k : ℕ). 4 < k → (k ≡ 6 → ⊥) → firstOfMessage k s ≡ earlierOf (stampPlace 1 s) (tokenPlace 9 s)) 16 (
-      (
-        (
-          (
-            (
-              (
-                (
-                  (
-                    (
-                      (
-                        (
-                          (
-                            (
-                              (
-                                (
-                                  (
-                                    tt,
-                                    (λ h d. absurd (omega arith)),
-                                  ),
-                                  (λ h d. absurd (omega arith)),
-                                ),
-                                (λ h d. absurd (omega arith)),
-                              ),
-                              (λ h d. absurd (omega arith)),
-                            ),
-                            (λ h d. absurd (omega arith)),
-                          ),
-                          both,
-                        ),
-                        (λ h d. absurd (d refl)),
-                      ),
-                      both,
-                    ),
-                    both,
-                  ),
-                  both,
-                ),
-                both,
-              ),
-              both,
-            ),
-            both,
-          ),
-          both,
-        ),
-        both,
-      ),
-      both,
-    )
+stamp-or-token s =
+    each (λ (k : ℕ). 4 < k → (k ≡ 6 → ⊥) → firstOfMessage k s ≡ earlierOf (stampPlace 1 s) (tokenPlace 9 s)) 16
+    (tt more no 0 tt more no 1 tt more no 2 tt more no 3 tt more no 4 tt more both more (λ h d. absurd (d refl)) more both more both more both more both
+    more both more both more both more both more both)
   where
+    no : (k : ℕ) → T (ltb k 5) → {P D : Type 0} → 4 < k → D → P
+    no k few h d = let l : k < 5 = lit< few in absurd (omega arith)
+
     both : {h : Type 0} {d : Type 0} → h → d → place (orElse (badPlace (below stampEnd) 1 (part s 1 8)) (orElse (badPlace legalToken 9 (part s 9 14)) none)) ≡ earlierOf (stampPlace 1 s) (tokenPlace 9 s)
     both h d = simp (place-earlier, or-none)

@@ -2,9 +2,9 @@
 use Rattle.wire.specs.Text.{capital, small, digit, tokenByte, capitalsThenSpaces, shaped}
 use Rattle.wire.specs.Price.{goodPrice, pricedOf}
 use Rattle.wire.specs.Layout.{badTokenByte, nonZeroByte, badPlace, firstBadPlace, noBadPlace, layoutFor, spell, unbroken, wellLaid, gapsAreZero}
-use Rattle.wire.specs.Messages.{lengthFor, readAnswer, legalOrZeros, writeAnswer, written}
+use Rattle.wire.specs.Messages.{lengthFor, readAnswer, legalOrZeros, inEighty, writeAnswer, bufferAfter}
 use Rattle.wire.specs.Legal.{Obeys, BadByte}
 
 unfoldable pub opened : Unit {0}
-unfolding capital small digit tokenByte capitalsThenSpaces shaped goodPrice pricedOf badTokenByte nonZeroByte badPlace firstBadPlace noBadPlace layoutFor spell unbroken wellLaid gapsAreZero lengthFor readAnswer legalOrZeros writeAnswer written Obeys BadByte
+unfolding capital small digit tokenByte capitalsThenSpaces shaped goodPrice pricedOf badTokenByte nonZeroByte badPlace firstBadPlace noBadPlace layoutFor spell unbroken wellLaid gapsAreZero lengthFor readAnswer legalOrZeros inEighty writeAnswer bufferAfter Obeys BadByte
 opened = tt

@@ -1,29 +1,23 @@
 -- The round trips, once over every layout: legal bytes that are read and written back, and values that are written and read back.
 -- Assumes nothing.
-use mathlib.Core.Path.{_≡_, refl, sym, ap, _∙_}
-use mathlib.Core.Bool.{Bool, true, false, not}
-use mathlib.Core.List.{List, _++_}
-use Prim.Native.Nat.{ℕ, _≤_}
-use lib.Dec.{ltb}
-use lib.ListN.{length, take, drop, getD, length-replicate}
-use lib.Seq.{take-at}
-use borrow.Author.Tests.{eq-eqb, le-ltb}
+use Rattle.octets.proofs.Proving.{Bool, List, T, _++_, _∙_, _≡_, _≤_, ap, drop, eq-eqb, false, getD, le-ltb, length, length-replicate, ltb, not, refl, sym, take, take-at, true, ℕ}
 use Rattle.octets.specs.Choice.{_⇒_⨾_}
 use Rattle.octets.specs.Bytes.{zeros}
 use Rattle.answers.specs.Answer.{isDone, ifDone}
 use Rattle.answers.specs.declared.Answer.{Answer}
 use Rattle.answers.specs.declared.Answer.the-variants.{Done, BadField, NoRoom}
 use Rattle.wire.specs.Layout.{Layout, Values, Fits, FromFields, atOnce, reading, readFields, noBadPlace, spell, wellLaid, gapsAreZero}
-use Rattle.wire.specs.Messages.{readAnswer, legalOrZeros, writeAnswer, written}
+use Rattle.wire.specs.Messages.{messageLayout, readAnswer, legalOrZeros, writeAnswer, bufferAfter}
 use Rattle.wire.specs.Legal.{Bytes}
 use Rattle.wire.specs.Faithful.{Faithful}
+use Rattle.wire.proofs.Numbered.{well-laid}
 use Rattle.wire.proofs.Layouts.{sized-all, length-spelled, values-again, message-again}
 use Rattle.wire.proofs.BadPlaces.{no-bad-place}
 use Rattle.wire.proofs.Exactly.{Way, malformed, bad, done, way, done-exactly, malformed-exactly, bad-field-exactly}
 
 -- a done writer leaves its bytes in front and the rest as it was
-pub in-front : (l : Layout) (m buffer : List ℕ) → writeAnswer l m buffer ≡ Done → written l m buffer ≡ m ++ drop (l .size) buffer
-unfolding written ifDone isDone
+pub in-front : (l : Layout) (m buffer : List ℕ) → writeAnswer l m buffer ≡ Done → bufferAfter l m buffer ≡ m ++ drop (l .size) buffer
+unfolding bufferAfter ifDone isDone
 in-front l m buffer e = rw e
 
 -- what the writer's answer says of bytes that have the message's length and type
@@ -48,7 +42,7 @@ module _ (l : Layout) (well : wellLaid l ≡ true) (gaps : gapsAreZero (l .field
       message-again l well gaps s (h .long) (h .typed) (no-bad-place (l .fields) s (h .judged)) b
 
   same-buffer : (s : List ℕ) → Bytes s → readAnswer l s ≡ Done → (buffer : List ℕ) → l .size ≤ length buffer
-      → (m : List ℕ) → m ≡ s → (writeAnswer l m buffer ≡ Done) × (written l m buffer ≡ s ++ drop (l .size) buffer)
+      → (m : List ℕ) → m ≡ s → (writeAnswer l m buffer ≡ Done) × (bufferAfter l m buffer ≡ s ++ drop (l .size) buffer)
   same-buffer s b e buffer room m same =
       let h = done-exactly l s .0 e in
       let d : writeAnswer l s buffer ≡ Done = legal-sent l s buffer (h .long) (h .typed) e room in
@@ -56,26 +50,26 @@ module _ (l : Layout) (well : wellLaid l ≡ true) (gaps : gapsAreZero (l .field
 
   -- values that were written
   module _ (v : Values (l .fields)) (fits : Fits (l .fields) v) (buffer : List ℕ) (e : writeAnswer l (spell l v) buffer ≡ Done) where
-    front : take (l .size) (written l (spell l v) buffer) ≡ spell l v
+    front : take (l .size) (bufferAfter l (spell l v) buffer) ≡ spell l v
     front =
         ap (take (l .size)) (in-front l (spell l v) buffer e)
         ∙ take-at (spell l v) (drop (l .size) buffer) (l .size) (length-spelled l well v (sized-all (l .fields) v fits))
 
-    front-legal : readAnswer l (take (l .size) (written l (spell l v) buffer)) ≡ Done
+    front-legal : readAnswer l (take (l .size) (bufferAfter l (spell l v) buffer)) ≡ Done
     unfolding spell
     front-legal = ap (readAnswer l) front ∙ sent-legal l (spell l v) buffer (length-spelled l well v (sized-all (l .fields) v fits)) refl e
 
-    front-values : readFields (l .fields) (take (l .size) (written l (spell l v) buffer)) ≡ v
+    front-values : readFields (l .fields) (take (l .size) (bufferAfter l (spell l v) buffer)) ≡ v
     front-values = ap (readFields (l .fields)) front ∙ values-again l well v fits
 
   -- a struct that is its layout's values, one by one
-  module _ {X R : Type 0} (made : FromFields (l .fields) X) (values : X → Values (l .fields)) (read : List ℕ → R)
+  module _ {X : Type 0} (made : FromFields (l .fields) X) (values : X → Values (l .fields))
       (whole : (m : X) → atOnce (l .fields) made (values m) ≡ m) (apart : (v : Values (l .fields)) → values (atOnce (l .fields) made v) ≡ v) where
     spelled : (s : List ℕ) → spell l (values (reading (l .fields) s made)) ≡ spell l (readFields (l .fields) s)
     spelled s = ap (spell l) (apart (readFields (l .fields) s))
 
-    pub faithful : Faithful l (λ (s : List ℕ). reading (l .fields) s made) (λ (m : X). spell l (values m)) values read
-    faithful = record {
+    trips : Faithful l (λ (s : List ℕ). reading (l .fields) s made) (λ (m : X). spell l (values m)) values
+    trips = record {
       same-bytes = λ s b e. spelled s ∙ same-bytes s b e;
       same-buffer = λ s b e buffer room. same-buffer s b e buffer room _ (spelled s ∙ same-bytes s b e);
       same-fields = λ m fits buffer e. (
@@ -85,9 +79,14 @@ module _ (l : Layout) (well : wellLaid l ≡ true) (gaps : gapsAreZero (l .field
       done = done-exactly l;
       malformed = malformed-exactly l;
       bad-field = bad-field-exactly l;
-      one-reading = λ s e e′. e ∙ sym e′;
-      one-writing = λ m buffer e e′. (e .0 ∙ sym (e′ .0), e .1 ∙ sym (e′ .1));
     }
+
+-- message k, whose struct is made of its values and taken apart into them
+pub faithful : (k : ℕ) → T (ltb k 16) → {X : Type 0} (made : FromFields (messageLayout k .fields) X) (values : X → Values (messageLayout k .fields))
+    → ((m : X) → atOnce (messageLayout k .fields) made (values m) ≡ m)
+    → ((v : Values (messageLayout k .fields)) → values (atOnce (messageLayout k .fields) made v) ≡ v)
+    → Faithful (messageLayout k) (λ (s : List ℕ). reading (messageLayout k .fields) s made) (λ (m : X). spell (messageLayout k) (values m)) values
+faithful k h made values whole apart = let ok = well-laid k h in trips (messageLayout k) (ok .0) (ok .1 .0) made values whole apart
 
 -- the bytes that a reader takes its fields from are as many as its message has, legal or not
 legal-long : (l : Layout) (s : List ℕ) → length (legalOrZeros l s) ≡ l .size

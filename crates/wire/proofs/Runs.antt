@@ -1,57 +1,40 @@
 -- A run of puts, a field each at its offset, spells the message: once over every layout. Assumes nothing.
-use mathlib.Core.Path.{_≡_, refl, sym, ap, _∙_, subst}
-use mathlib.Core.Bool.{true}
-use mathlib.Core.List.{List, [], _∷_, _++_, append-assoc, append-nil}
-use Prim.Native.Nat.{ℕ, _+_, _≤_, _<_}
-use native.Mathlib.Nat.{zero-add}
-use native.Mathlib.Omega.{arith}
-use lib.ListN.{length, take}
-use lib.Seq.{take-at}
-use borrow.Author.Tests.{eqb-true}
+use Rattle.octets.proofs.Proving.{List, T, _++_, _+_, _<_, _∙_, _≡_, _≤_, ap, arith, length, ltb, sym, take, take-at, true, zero-add, ℕ}
+use Rattle.answers.specs.declared.Answer.{Answer}
 use Rattle.octets.specs.Bytes.{put, digits, zeros}
-use Rattle.octets.proofs.Laws.{Written, start, next, digits-byte}
-use Rattle.wire.specs.Layout.{Form, number, bytes, gap, Field, Value, Values, spellValue, spellFields, Layout, spell, unbroken, wellLaid}
-use Rattle.wire.proofs.Layouts.{SizedField, Sized, length-value, length-spelled, inside, first-at, rest-unbroken}
+use Rattle.octets.proofs.Laws.{length-digits, put-put, length-put, digits-byte, drop-zeros}
+use Rattle.wire.specs.Limits.{longestMessage}
+use Rattle.wire.specs.Layout.{Values, spellFields, PutFields, Layout, spell, wellLaid}
+use Rattle.wire.specs.Messages.{messageLayout, inEighty, writeAnswer, bufferAfter}
+use Rattle.wire.proofs.Numbered.{well-laid, at-most-longest}
+use Rattle.wire.proofs.Layouts.{length-spelled}
+use Rattle.wire.proofs.Puts.{puts}
 
--- what the put of a field says of the array that it leaves
-abbrev Put : (form : Form) → ℕ → ℕ → Value form → List ℕ → List ℕ → Type 0
-Put number at width v t u = u ≡ put t at (digits width v)
-Put bytes at width v t u = (u ≡ put t at v) × (length v ≡ width)
-Put gap at width v t u = u ≡ put t at (zeros width)
+-- over zeros it leaves the message, with zeros behind it
+ran : (l : Layout) → wellLaid l ≡ true → l .code < 256 → l .size ≤ longestMessage → {v : Values (l .fields)} {u : List ℕ}
+    → PutFields (l .fields) v (put (zeros longestMessage) 0 (digits 1 (l .code))) u → (u ≡ inEighty (spell l v)) × (length (spell l v) ≡ l .size)
+unfolding spell wellLaid inEighty
+ran l well code small {v} r =
+    let xs : List ℕ = zeros longestMessage in
+    let type : List ℕ = digits 1 (l .code) in
+    let byte = length-digits 1 (l .code) in
+    let all = puts r 1 (l .size) well (omega (arith, small, length-put xs 0 type (omega (arith, byte)))) in
+    let long = length-spelled l well v (all .1) in
+    let one : put (put xs 0 type) 1 (spellFields (l .fields) v) ≡ put xs 0 (spell l v) =
+    ap (λ (n : ℕ). put (put xs 0 type) n (spellFields (l .fields) v)) (sym byte ∙ sym (zero-add (length type)))
+    ∙ put-put xs 0 type (spellFields (l .fields) v) (omega (arith, byte, long, small)) ∙ ap (λ (b : List ℕ). put xs 0 (b ++ spellFields (l .fields) v)) (digits-byte (l .code) code) in
+    (all .0 ∙ one ∙ rw zero-add (ap (λ (z : List ℕ). spell l v ++ z) (drop-zeros (length (spell l v)) longestMessage (omega arith))), long)
 
--- a run of them, one behind the other
-infixr 5 _then_
-pub data Run : (fs : List Field) → Values fs → List ℕ → List ℕ → Type 0 where
-  ends : {t : List ℕ} → Run [] tt t t
-  _then_ : {f : Field} {fs : List Field} {v : Value (f .form)} {vs : Values fs} {t m u : List ℕ}
-      → Put (f .form) (f .at) (f .width) v t m → Run fs vs m u → Run (f ∷ fs) (v, vs) t u
+-- message k is spelled so, behind its type
+pub spelled : (k : ℕ) → T (ltb k 16) → {v : Values (messageLayout k .fields)} {t u : List ℕ} → t ≡ put (zeros longestMessage) 0 (digits 1 (messageLayout k .code))
+    → PutFields (messageLayout k .fields) v t u → (u ≡ inEighty (spell (messageLayout k) v)) × (length (spell (messageLayout k) v) ≡ messageLayout k .size)
+spelled k h e r = let ok = well-laid k h in ran (messageLayout k) (ok .0) (ok .1 .1) (at-most-longest k) (rw e at r)
 
-as-spelled : (form : Form) (at width : ℕ) (v : Value form) (t u : List ℕ) → Put form at width v t u → (u ≡ put t at (spellValue form width v)) × SizedField form width v
-as-spelled number at width v t u h = (h, tt)
-as-spelled bytes at width v t u h = h
-as-spelled gap at width v t u h = (h, tt)
-
--- behind the n bytes ys that were put already
-run : {fs : List Field} {v : Values fs} {t u : List ℕ} → Run fs v t u → (size : ℕ) (xs ys : List ℕ) (n : ℕ) → Written xs t 0 n ys
-    → unbroken n size fs ≡ true → size ≤ length xs → Written xs u 0 size (ys ++ spellFields fs v) × Sized fs v
-unfolding unbroken
-run (ends {t}) size xs ys n w h room =
-    (subst (λ (k : ℕ). Written xs t 0 k (ys ++ [])) (eqb-true n size h) (record { is = w .is ∙ ap (put xs 0) (sym (append-nil ys)); long = ap length (append-nil ys) ∙ w .long }), tt)
-run (_then_ {f} {fs} {v} {vs} {t} {m} {u} p r) size xs ys n w h room =
-    let b : List ℕ = spellValue (f .form) (f .width) v in
-    let q = as-spelled (f .form) (f .at) (f .width) v t m p in
-    let rest = rest-unbroken f fs n size h in
-    let there : m ≡ put t (0 + n) b = q .0 ∙ ap (λ (k : ℕ). put t k b) (first-at f fs n size h ∙ sym (zero-add n)) in
-    let w′ = next b (f .width) w there (length-value (f .form) (f .width) v (q .1)) (omega (arith, inside fs (n + f .width) size rest)) in
-    let all = run r size xs (ys ++ b) (n + f .width) w′ rest room in
-    (subst (Written xs u 0 size) (append-assoc ys b (spellFields fs vs)) (all .0), (q .1, all .1))
-
--- the first bytes of the array are the message, and they are as many as the layout says
-pub ran : (l : Layout) → wellLaid l ≡ true → l .code < 256 → l .size ≤ 80 → (v : Values (l .fields)) (t u : List ℕ)
-    → t ≡ put (zeros 80) 0 (digits 1 (l .code)) → Run (l .fields) v t u → (take (l .size) u ≡ spell l v) × (length (spell l v) ≡ l .size)
-unfolding spell wellLaid
-ran l well code small v t u first r =
-    let w = next {xs = zeros 80} {at = 0} (l .code ∷ []) 1 (start (zeros 80) 0) (first ∙ ap (put (zeros 80) 0) (digits-byte (l .code) code)) refl (omega arith) in
-    let all = run r (l .size) (zeros 80) (l .code ∷ []) 1 w well small in
-    let long : length (spell l v) ≡ l .size = length-spelled l well v (all .1) in
-    (ap (take (l .size)) (all .0 .is) ∙ take-at (spell l v) _ (l .size) long, long)
+-- what was spelled is what is sent
+pub written : (l : Layout) (m buffer : List ℕ) {u exit : List ℕ} {r : Answer} → (u ≡ inEighty m) × (length m ≡ l .size)
+    → (r ≡ writeAnswer l (take (l .size) u) buffer) × (exit ≡ bufferAfter l (take (l .size) u) buffer)
+    → (r ≡ writeAnswer l m buffer) × (exit ≡ bufferAfter l m buffer)
+unfolding inEighty
+written l m buffer {u} e w =
+    let front : take (l .size) u ≡ m = ap (take (l .size)) (e .0) ∙ take-at m _ (l .size) (e .1) in
+    rw front at w

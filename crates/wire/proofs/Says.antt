@@ -1,13 +1,7 @@
 -- A test and the sentence that it tests: each test of a byte that the paper names holds exactly when its sentence does. Assumes nothing.
-use mathlib.Core.Path.{_≡_, refl, sym, ap, ap₂, _∙_, subst}
-use mathlib.Core.Bool.{Bool, true, false, _&&_, _||_, or-assoc}
-use mathlib.Core.Logic.{_⊎_, ⊎-elim, inl, inr}
-use Prim.Native.Nat.{ℕ, _≤_, _<_}
+use Rattle.octets.proofs.Proving.{Bool, _&&_, _<_, _||_, _∙_, _≡_, _≤_, _⊎_, ap, ap₂, arith, eq-eqb, eqb, eqb-true, false, inl, inr, le-leb, leb, leb-true, lt-ltb, ltb, ltb-true, or-assoc, refl, subst, sym, true, ℕ, ⊎-elim}
 use Prim.Native.Char.{code}
 use Prim.Native.String as Text
-use native.Mathlib.Omega.{arith}
-use lib.Dec.{eqb, leb, ltb}
-use borrow.Author.Tests.{eqb-true, leb-true, ltb-true, eq-eqb, le-leb, lt-ltb}
 use Rattle.octets.specs.Choice.{among}
 use Rattle.octets.proofs.Below.{both}
 use Rattle.wire.specs.Letters.{space}

@@ -1,10 +1,5 @@
 -- Values that obey their fields' rules, spelled, are a legal message. Assumes nothing.
-use mathlib.Core.Path.{_≡_, refl, sym, ap₂, _∙_, subst}
-use mathlib.Core.Bool.{true}
-use mathlib.Core.Logic.{⊎-elim}
-use mathlib.Core.List.{List, [], _∷_, _++_, append-assoc, List·Memᴰ·cases-cons, List·Memᴰ·not-nil}
-use Prim.Native.Nat.{ℕ, _+_}
-use lib.ListN.{length, length-append}
+use Rattle.octets.proofs.Proving.{List, List·Memᴰ·cases-cons, List·Memᴰ·not-nil, [], _++_, _+_, _∙_, _∷_, _≡_, append-assoc, ap₂, length, length-append, refl, subst, sym, true, ℕ, ⊎-elim}
 use Rattle.octets.specs.Bytes.{part}
 use Rattle.answers.specs.declared.Answer.the-variants.{Done}
 use Rattle.wire.specs.Layout.{Field, Values, spellValue, spellFields, Layout, spell, unbroken, wellLaid}

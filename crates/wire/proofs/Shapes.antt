@@ -1,14 +1,5 @@
 -- Capitals, then spaces, judged from left to right: what one byte more does to the verdict. Assumes nothing.
-use mathlib.Core.Path.{_≡_, refl}
-use mathlib.Core.Bool.{Bool, true, false, not, _&&_, _||_, and-true}
-use mathlib.Core.List.{List, [], _∷_}
-use Prim.Native.Nat.{ℕ, suc, _+_, _≤_, _<_}
-use native.Mathlib.Numerals.{add-one}
-use native.Mathlib.Omega.{arith}
-use borrow.Author.Tests.{leb-true, ne-eqb}
-use lib.Dec.{eqb, leb}
-use lib.ListN.{length, drop, getD, drop-of-length-le}
-use lib.Seq.{drop-cons}
+use Rattle.octets.proofs.Proving.{Bool, List, [], _&&_, _+_, _<_, _||_, _∷_, _≡_, _≤_, add-one, and-true, arith, drop, drop-cons, drop-of-length-le, eqb, false, getD, leb, leb-true, length, ne-eqb, not, refl, suc, true, ℕ}
 use Rattle.octets.specs.Choice.{pick}
 use Rattle.octets.specs.Bytes.{allAre}
 use Rattle.wire.specs.Letters.{space}

@@ -1,13 +1,5 @@
 -- The first byte that no token holds, looked for from left to right: what one byte more does to the search. Assumes nothing.
-use mathlib.Core.Path.{_≡_, ap, _∙_}
-use mathlib.Core.Bool.{true, false}
-use mathlib.Core.List.{List, _∷_}
-use mathlib.Core.Option.{none, some}
-use Prim.Native.Nat.{ℕ, suc, _+_, _-_, _≤_, _<_}
-use native.Mathlib.Numerals.{add-one}
-use native.Mathlib.Omega.{arith}
-use lib.ListN.{length, getD}
-use lib.Seq.{drop-cons}
+use Rattle.octets.proofs.Proving.{List, _+_, _-_, _<_, _∙_, _∷_, _≡_, _≤_, add-one, ap, arith, drop-cons, false, getD, length, none, some, suc, true, ℕ}
 use Rattle.octets.specs.Bytes.{part}
 use Rattle.wire.specs.Text.{tokenByte}
 use Rattle.wire.specs.Layout.{badTokenByte}

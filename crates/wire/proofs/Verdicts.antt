@@ -1,19 +1,10 @@
 -- What a reader and a writer answer, by what the code found on its way there. Assumes nothing.
-use mathlib.Core.Path.{_≡_, refl, sym, ap, _∙_}
-use mathlib.Core.Bool.{Bool, true, false}
-use mathlib.Core.List.{List, _++_}
-use mathlib.Core.Option.{Option, none, some}
-use Prim.Native.Nat.{ℕ, _≤_, _<_}
-use native.Mathlib.Omega.{arith}
-use lib.ListN.{length, take, drop, getD}
-use lib.Seq.{length-take-le}
-use native.Mathlib.Nat.{zero-add}
+use Rattle.octets.proofs.Proving.{Bool, List, Option, _++_, _<_, _∙_, _≡_, _≤_, ap, arith, drop, eq-eqb, false, getD, le-ltb, length, length-take-le, lt-ltb, ne-eqb, none, refl, some, sym, take, true, zero-add, ℕ}
 use Rattle.octets.specs.Bytes.{put}
-use borrow.Author.Tests.{eq-eqb, ne-eqb, lt-ltb, le-ltb}
 use Rattle.answers.specs.Answer.{isDone, ifDone}
 use Rattle.answers.specs.declared.Answer.the-variants.{Done, Malformed, BadField, NoRoom}
 use Rattle.wire.specs.Layout.{Layout, Field, Nowhere, At, place, isNone, firstBadPlace, noBadPlace}
-use Rattle.wire.specs.Messages.{readAnswer, writeAnswer, written}
+use Rattle.wire.specs.Messages.{readAnswer, writeAnswer, bufferAfter}
 
 -- nothing is bad where there is no first bad place
 module _ (fs : List Field) (s : List ℕ) where
@@ -57,19 +48,19 @@ module _ (l : Layout) (spelled buffer : List ℕ) (n : ℕ) (e : n ≡ l .size) 
   found h = ap (λ (m : ℕ). noBadPlace (l .fields) (take m spelled)) (sym e) ∙ h
 
   pub not-legal : noBadPlace (l .fields) (take n spelled) ≡ false
-      → (BadField ≡ writeAnswer l (take (l .size) spelled) buffer) × (buffer ≡ written l (take (l .size) spelled) buffer)
-  unfolding writeAnswer written ifDone isDone
+      → (BadField ≡ writeAnswer l (take (l .size) spelled) buffer) × (buffer ≡ bufferAfter l (take (l .size) spelled) buffer)
+  unfolding writeAnswer bufferAfter ifDone isDone
   not-legal h = let u = found h in (rw u, rw u)
 
   pub no-room : noBadPlace (l .fields) (take n spelled) ≡ true → length buffer < l .size
-      → (NoRoom ≡ writeAnswer l (take (l .size) spelled) buffer) × (buffer ≡ written l (take (l .size) spelled) buffer)
-  unfolding writeAnswer written ifDone isDone
+      → (NoRoom ≡ writeAnswer l (take (l .size) spelled) buffer) × (buffer ≡ bufferAfter l (take (l .size) spelled) buffer)
+  unfolding writeAnswer bufferAfter ifDone isDone
   no-room h short = let u = found h in let f = lt-ltb (length buffer) (l .size) short in (rw (u, f), rw (u, f))
 
   pub sent : noBadPlace (l .fields) (take n spelled) ≡ true → l .size ≤ length buffer → l .size ≤ length spelled
       → {exit : List ℕ} → exit ≡ put buffer 0 (take n spelled)
-      → (Done ≡ writeAnswer l (take (l .size) spelled) buffer) × (exit ≡ written l (take (l .size) spelled) buffer)
-  unfolding writeAnswer written ifDone isDone
+      → (Done ≡ writeAnswer l (take (l .size) spelled) buffer) × (exit ≡ bufferAfter l (take (l .size) spelled) buffer)
+  unfolding writeAnswer bufferAfter ifDone isDone
   sent h room whole {exit} x =
       let u = found h in
       let f = le-ltb (length buffer) (l .size) room in

@@ -11,7 +11,7 @@ use lib.ListN.{length}
 use Rattle.octets.specs.Choice.{pick, among}
 use Rattle.wire.specs.Letters.{sides, sweeps, liquidityFlags, bookReasons, systemEvents}
 use Rattle.wire.specs.Limits.{stampEnd, tokenSize, lowestPrice, highestPrice}
-use Rattle.octets.specs.Bytes.{part, numberOf, digits, zeros}
+use Rattle.octets.specs.Bytes.{part, put, numberOf, digits, zeros}
 use Rattle.wire.specs.Text.{tokenByte}
 pub use Rattle.wire.specs.declared.places.Place.{Place}
 pub use Rattle.wire.specs.declared.places.Place.the-variants.{Nowhere, At}
@@ -39,11 +39,11 @@ pub record Field : Type 0 where
 
 -- ---- the fields' kinds, by their offset
 
-abbrev pub numberAt : ℕ → ℕ → Field
-numberAt at width = record { at = at; width = width; form = number; rule = free }
+abbrev pub wholeAt : ℕ → ℕ → Field
+wholeAt at width = record { at = at; width = width; form = number; rule = free }
 
 abbrev pub letterAt : ℕ → Field
-letterAt at = numberAt at 1
+letterAt at = wholeAt at 1
 
 abbrev pub textAt : ℕ → ℕ → Field
 textAt at width = record { at = at; width = width; form = bytes; rule = free }
@@ -121,6 +121,24 @@ abbrev pub spellFields : (fs : List Field) → Values fs → List ℕ
 spellFields [] v = []
 spellFields (f ∷ fs) v = spellValue (f .form) (f .width) (v .0) ++ spellFields fs (v .1)
 
+-- u is t with a field's value put at its offset, a text as wide as the field
+abbrev pub PutField : (form : Form) → ℕ → ℕ → Value form → List ℕ → List ℕ → Type 0
+PutField number at width v t u = u ≡ put t at (digits width v)
+PutField bytes at width v t u = (u ≡ put t at v) × (length v ≡ width)
+PutField gap at width v t u = u ≡ put t at (zeros width)
+
+-- .. and with the values of fields, one after the other
+infixr 5 _then_
+pub data PutFields : (fs : List Field) → Values fs → List ℕ → List ℕ → Type 0 where
+  ends : {t : List ℕ} → PutFields [] tt t t
+  _then_ : {f : Field} {fs : List Field} {v : Value (f .form)} {vs : Values fs} {t m u : List ℕ}
+      → PutField (f .form) (f .at) (f .width) v t m → PutFields fs vs m u → PutFields (f ∷ fs) (v, vs) t u
+
+-- the values of some fields and of those behind them
+abbrev pub bothValues : (fs gs : List Field) → Values fs → Values gs → Values (fs ++ gs)
+bothValues [] gs v w = w
+bothValues (f ∷ fs) gs v w = (v .0, bothValues fs gs (v .1) w)
+
 -- a value that its field can hold: a number below 256 to the width, a text of the width
 abbrev pub FitsField : (form : Form) → ℕ → Value form → Type 0
 FitsField number width v = v < 256 ^ width
@@ -144,6 +162,11 @@ oneByOne (f ∷ fs) k = λ v. oneByOne fs (λ vs. k (v, vs))
 abbrev pub atOnce : {R : Type 0} (fs : List Field) → FromFields fs R → Values fs → R
 atOnce [] r v = r
 atOnce (f ∷ fs) g v = atOnce fs (g (v .0)) (v .1)
+
+-- of some fields and those behind them, where the first make one part of the whole
+abbrev pub grouped : {A : Type 0} (R : Type 0) (fs gs : List Field) → FromFields fs A → (A → FromFields gs R) → FromFields (fs ++ gs) R
+grouped R [] gs a rest = rest a
+grouped R (f ∷ fs) gs a rest = λ v. grouped R fs gs (a v) rest
 
 abbrev pub reading : {R : Type 0} (fs : List Field) → List ℕ → FromFields fs R → R
 reading fs s g = atOnce fs g (readFields fs s)

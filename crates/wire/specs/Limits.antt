@@ -9,6 +9,10 @@ stampEnd = 86_400_000_000_000
 abbrev pub tokenSize : ℕ
 tokenSize = 14
 
+-- none of the sixteen messages is longer than Replaced
+abbrev pub longestMessage : ℕ
+longestMessage = 80
+
 -- price 1 to 1,999,999,900 ..
 abbrev pub lowestPrice : ℕ
 lowestPrice = 1

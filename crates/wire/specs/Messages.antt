@@ -2,9 +2,9 @@
 -- are judged is the paper's (Messages and entries): tokens and stamps everywhere, side and sweep letters inbound.
 use Prim.Native.Char.{code}
 use mathlib.Core.Bool.{Bool, not}
-use mathlib.Core.List.{List, [], _∷_, _++_}
+use mathlib.Core.List.{List, [], _∷_, _++_, map}
 use mathlib.Core.Option.{Option, none, some}
-use Prim.Native.Nat.{ℕ}
+use Prim.Native.Nat.{ℕ, _-_}
 use lib.ListN.{length, getD, drop}
 use lib.Dec.{ltb, eqb}
 use Rattle.octets.specs.Choice.{pick, firstOf_, _⇒_⨾_}
@@ -12,7 +12,8 @@ use Rattle.answers.specs.Answer.{ifDone}
 use Rattle.answers.specs.declared.Answer.{Answer}
 use Rattle.answers.specs.declared.Answer.the-variants.{Done, Malformed, BadField, NoRoom}
 use Rattle.octets.specs.Bytes.{zeros}
-use Rattle.wire.specs.Layout.{Layout, stampAt, tokenAt, sideAt, sweepAt, letterAt, numberAt, textAt, noBadPlace, layoutFor}
+use Rattle.wire.specs.Limits.{longestMessage}
+use Rattle.wire.specs.Layout.{Layout, Field, stampAt, tokenAt, sideAt, sweepAt, letterAt, wholeAt, textAt, noBadPlace, layoutFor, shifted}
 
 -- ---- inbound
 
@@ -23,15 +24,15 @@ enterOrder = record {
   fields =
       tokenAt 1  -- Order Token
       ∷ sideAt 15  -- Buy/Sell Indicator
-      ∷ numberAt 16 4  -- Shares
+      ∷ wholeAt 16 4  -- Shares
       ∷ textAt 20 8  -- Stock
-      ∷ numberAt 28 4  -- Price
-      ∷ numberAt 32 4  -- Time in Force
+      ∷ wholeAt 28 4  -- Price
+      ∷ wholeAt 32 4  -- Time in Force
       ∷ textAt 36 4  -- Firm
       ∷ letterAt 40  -- Display
       ∷ letterAt 41  -- Capacity
       ∷ sweepAt 42  -- Intermarket Sweep Eligibility
-      ∷ numberAt 43 4  -- Minimum Quantity
+      ∷ wholeAt 43 4  -- Minimum Quantity
       ∷ letterAt 47  -- Cross Type
       ∷ [];
 }
@@ -43,12 +44,12 @@ replaceOrder = record {
   fields =
       tokenAt 1  -- Existing Order Token
       ∷ tokenAt 15  -- Replacement Order Token
-      ∷ numberAt 29 4  -- Shares
-      ∷ numberAt 33 4  -- Price
-      ∷ numberAt 37 4  -- Time in Force
+      ∷ wholeAt 29 4  -- Shares
+      ∷ wholeAt 33 4  -- Price
+      ∷ wholeAt 37 4  -- Time in Force
       ∷ letterAt 41  -- Display
       ∷ sweepAt 42  -- Intermarket Sweep Eligibility
-      ∷ numberAt 43 4  -- Minimum Quantity
+      ∷ wholeAt 43 4  -- Minimum Quantity
       ∷ [];
 }
 
@@ -58,7 +59,7 @@ cancelOrder = record {
   size = 19;
   fields =
       tokenAt 1  -- Order Token
-      ∷ numberAt 15 4  -- Shares
+      ∷ wholeAt 15 4  -- Shares
       ∷ [];
 }
 
@@ -69,7 +70,7 @@ modifyOrder = record {
   fields =
       tokenAt 1  -- Order Token
       ∷ sideAt 15  -- Buy/Sell Indicator
-      ∷ numberAt 16 4  -- Shares
+      ∷ wholeAt 16 4  -- Shares
       ∷ [];
 }
 
@@ -85,6 +86,36 @@ systemEvent = record {
       ∷ [];
 }
 
+-- what Accepted and Replaced both state of an order
+abbrev pub stated : List Field
+stated =
+    letterAt 23  -- Buy/Sell Indicator
+    ∷ wholeAt 24 4  -- Shares
+    ∷ textAt 28 8  -- Stock
+    ∷ wholeAt 36 4  -- Price
+    ∷ wholeAt 40 4  -- Time in Force
+    ∷ textAt 44 4  -- Firm
+    ∷ letterAt 48  -- Display
+    ∷ wholeAt 49 8  -- Order Reference Number
+    ∷ letterAt 57  -- Capacity
+    ∷ letterAt 58  -- Intermarket Sweep Eligibility
+    ∷ wholeAt 59 4  -- Minimum Quantity
+    ∷ letterAt 63  -- Cross Type
+    ∷ letterAt 64  -- Order State
+    ∷ []
+
+-- and what each has behind that
+abbrev pub acceptedRest : List Field
+acceptedRest =
+    letterAt 65  -- BBO Weight Indicator
+    ∷ []
+
+abbrev pub replacedRest : List Field
+replacedRest =
+    tokenAt 65  -- Previous Order Token
+    ∷ letterAt 79  -- BBO Weight Indicator
+    ∷ []
+
 abbrev pub accepted : Layout
 accepted = record {
   code = code "A";
@@ -92,21 +123,7 @@ accepted = record {
   fields =
       stampAt 1  -- Timestamp
       ∷ tokenAt 9  -- Order Token
-      ∷ letterAt 23  -- Buy/Sell Indicator
-      ∷ numberAt 24 4  -- Shares
-      ∷ textAt 28 8  -- Stock
-      ∷ numberAt 36 4  -- Price
-      ∷ numberAt 40 4  -- Time in Force
-      ∷ textAt 44 4  -- Firm
-      ∷ letterAt 48  -- Display
-      ∷ numberAt 49 8  -- Order Reference Number
-      ∷ letterAt 57  -- Capacity
-      ∷ letterAt 58  -- Intermarket Sweep Eligibility
-      ∷ numberAt 59 4  -- Minimum Quantity
-      ∷ letterAt 63  -- Cross Type
-      ∷ letterAt 64  -- Order State
-      ∷ letterAt 65  -- BBO Weight Indicator
-      ∷ [];
+      ∷ (stated ++ acceptedRest);
 }
 
 abbrev pub replaced : Layout
@@ -116,22 +133,7 @@ replaced = record {
   fields =
       stampAt 1  -- Timestamp
       ∷ tokenAt 9  -- Replacement Order Token
-      ∷ letterAt 23  -- Buy/Sell Indicator
-      ∷ numberAt 24 4  -- Shares
-      ∷ textAt 28 8  -- Stock
-      ∷ numberAt 36 4  -- Price
-      ∷ numberAt 40 4  -- Time in Force
-      ∷ textAt 44 4  -- Firm
-      ∷ letterAt 48  -- Display
-      ∷ numberAt 49 8  -- Order Reference Number
-      ∷ letterAt 57  -- Capacity
-      ∷ letterAt 58  -- Intermarket Sweep Eligibility
-      ∷ numberAt 59 4  -- Minimum Quantity
-      ∷ letterAt 63  -- Cross Type
-      ∷ letterAt 64  -- Order State
-      ∷ tokenAt 65  -- Previous Order Token
-      ∷ letterAt 79  -- BBO Weight Indicator
-      ∷ [];
+      ∷ (stated ++ replacedRest);
 }
 
 abbrev pub canceled : Layout
@@ -141,7 +143,7 @@ canceled = record {
   fields =
       stampAt 1  -- Timestamp
       ∷ tokenAt 9  -- Order Token
-      ∷ numberAt 23 4  -- Decrement Shares
+      ∷ wholeAt 23 4  -- Decrement Shares
       ∷ letterAt 27  -- Reason
       ∷ [];
 }
@@ -153,10 +155,10 @@ aiqCancelled = record {
   fields =
       stampAt 1  -- Timestamp
       ∷ tokenAt 9  -- Order Token
-      ∷ numberAt 23 4  -- Decrement Shares
+      ∷ wholeAt 23 4  -- Decrement Shares
       ∷ letterAt 27  -- Reason
-      ∷ numberAt 28 4  -- Quantity Prevented from Trading
-      ∷ numberAt 32 4  -- Execution Price
+      ∷ wholeAt 28 4  -- Quantity Prevented from Trading
+      ∷ wholeAt 32 4  -- Execution Price
       ∷ letterAt 36  -- Liquidity Flag
       ∷ [];
 }
@@ -168,10 +170,10 @@ executed = record {
   fields =
       stampAt 1  -- Timestamp
       ∷ tokenAt 9  -- Order Token
-      ∷ numberAt 23 4  -- Executed Shares
-      ∷ numberAt 27 4  -- Execution Price
+      ∷ wholeAt 23 4  -- Executed Shares
+      ∷ wholeAt 27 4  -- Execution Price
       ∷ letterAt 31  -- Liquidity Flag
-      ∷ numberAt 32 8  -- Match Number
+      ∷ wholeAt 32 8  -- Match Number
       ∷ [];
 }
 
@@ -182,7 +184,7 @@ brokenTrade = record {
   fields =
       stampAt 1  -- Timestamp
       ∷ tokenAt 9  -- Order Token
-      ∷ numberAt 23 8  -- Match Number
+      ∷ wholeAt 23 8  -- Match Number
       ∷ letterAt 31  -- Reason
       ∷ [];
 }
@@ -225,9 +227,9 @@ priorityUpdate = record {
   fields =
       stampAt 1  -- Timestamp
       ∷ tokenAt 9  -- Order Token
-      ∷ numberAt 23 4  -- Price
+      ∷ wholeAt 23 4  -- Price
       ∷ letterAt 27  -- Display
-      ∷ numberAt 28 8  -- Order Reference Number
+      ∷ wholeAt 28 8  -- Order Reference Number
       ∷ [];
 }
 
@@ -239,7 +241,7 @@ modified = record {
       stampAt 1  -- Timestamp
       ∷ tokenAt 9  -- Order Token
       ∷ letterAt 23  -- Buy/Sell Indicator
-      ∷ numberAt 24 4  -- Shares
+      ∷ wholeAt 24 4  -- Shares
       ∷ [];
 }
 
@@ -261,8 +263,12 @@ abbrev pub noMessage : Layout
 noMessage = record { code = 0; size = 0; fields = [] }
 
 -- message k, the inbound ones first
-abbrev pub message : ℕ → Layout
-message k = getD messages k noMessage
+abbrev pub messageLayout : ℕ → Layout
+messageLayout k = getD messages k noMessage
+
+-- its fields where it stands so many bytes further on
+abbrev pub fieldsFrom : ℕ → ℕ → List Field
+fieldsFrom from k = map (shifted from) (messageLayout k .fields)
 
 abbrev pub sizeOr0 : Option Layout → ℕ
 sizeOr0 none = 0
@@ -290,6 +296,10 @@ readAnswer l s =
 unfoldable pub legalOrZeros : Layout → List ℕ → List ℕ
 legalOrZeros l s = ifDone (readAnswer l s) s (zeros (l .size))
 
+-- a message at the front of as many bytes as the longest has, with zeros behind it
+unfoldable pub inEighty : List ℕ → List ℕ
+inEighty m = m ++ zeros (longestMessage - length m)
+
 -- a writer makes the same checks of what it is to write (3), then room (13)
 unfoldable pub writeAnswer : Layout → List ℕ → List ℕ → Answer
 writeAnswer l bytes buffer =
@@ -299,5 +309,5 @@ writeAnswer l bytes buffer =
     ⨾ Done
 
 -- the buffer after it: bytes after the message stay, and a refused writer changes none
-unfoldable pub written : Layout → List ℕ → List ℕ → List ℕ
-written l bytes buffer = ifDone (writeAnswer l bytes buffer) (bytes ++ drop (l .size) buffer) buffer
+unfoldable pub bufferAfter : Layout → List ℕ → List ℕ → List ℕ
+bufferAfter l bytes buffer = ifDone (writeAnswer l bytes buffer) (bytes ++ drop (l .size) buffer) buffer

@@ -1,9 +1,11 @@
 // The one judge of all sixteen messages: readers ask it of what came in, writers of what they are about to send.
 use crate::messages::CANCEL_ORDER;
 use crate::messages::ENTER_ORDER;
-use crate::messages::MODIFY_ORDER;
+use crate::messages::MESSAGES;
+use crate::messages::REPLACE_ORDER;
 use crate::messages::REPLACED;
 use crate::messages::SYSTEM_EVENT;
+use crate::messages::first_byte;
 use crate::messages::letter_of;
 use crate::messages::size;
 use crate::places::Place;
@@ -14,20 +16,19 @@ use crate::places::bad_token;
 use crate::places::earlier;
 use answers::Answer;
 ghost use mathlib.Core.Path.{_≡_};
-ghost use Prim.Native.Nat.{_<_, _≤_};
+ghost use Prim.Native.Nat.{_+_, _<_, _≤_};
 ghost use lib.ListN.{length};
 ghost use Rattle.wire.specs.Layout.{place, firstBadPlace, noBadPlace};
-ghost use Rattle.wire.specs.Messages.{message, readAnswer};
+ghost use Rattle.wire.specs.Messages.{messageLayout, fieldsFrom, readAnswer};
 
 // Length and type, then the judged fields.
 pub fn judge(s: &[u8], k: usize) -> Answer
-    requires { ⌜ k < 16 ⌝ }
-    ensures { λ r. ⌜ r ≡ readAnswer (message k) (now (s .entry)) ⌝ }
+    ensures { λ r. ⌜ r ≡ readAnswer (messageLayout k) (now (s .entry)) ⌝ }
 {
     if s.len() != size(k) {
         return Answer::Malformed;
     }
-    if s[0] != letter_of(k) {
+    if first_byte(s) != letter_of(k) {
         return Answer::Malformed;
     }
     if is_clean(s, k) {
@@ -37,9 +38,9 @@ pub fn judge(s: &[u8], k: usize) -> Answer
 }
 
 // Nothing is bad where there is no first bad place.
-pub fn is_clean(s: &[u8], k: usize) -> bool
-    requires { ⌜ (k < 16) × (length (now s) ≡ message k .size) ⌝ }
-    ensures { λ r. ⌜ r ≡ noBadPlace (message k .fields) (now (s .entry)) ⌝ }
+pub(crate) fn is_clean(s: &[u8], k: usize) -> bool
+    requires { ⌜ length (now s) ≡ messageLayout k .size ⌝ }
+    ensures { λ r. ⌜ r ≡ noBadPlace (messageLayout k .fields) (now (s .entry)) ⌝ }
 {
     match first_bad(s, k) {
         Place::Nowhere => true,
@@ -47,48 +48,48 @@ pub fn is_clean(s: &[u8], k: usize) -> bool
     }
 }
 
-// Where the first bad byte of message k stands.
-pub fn first_bad(s: &[u8], k: usize) -> Place
-    requires { ⌜ (k < 16) × (length (now s) ≡ message k .size) ⌝ }
-    ensures { λ r. ⌜ r ≡ place (firstBadPlace (message k .fields) (now (s .entry))) ⌝ }
+// Where the first bad byte of message k stands: of tokens and stamps everywhere, of side and sweep in what a client sends.
+fn first_bad(s: &[u8], k: usize) -> Place
+    requires { ⌜ length (now s) ≡ messageLayout k .size ⌝ }
+    ensures { λ r. ⌜ r ≡ place (firstBadPlace (messageLayout k .fields) (now (s .entry))) ⌝ }
 {
     if k < SYSTEM_EVENT {
-        return bad_inbound(s, k);
+        return bad_inbound(s, 0, k);
     }
-    bad_outbound(s, k)
+    match k {
+        SYSTEM_EVENT => bad_stamp(s, 1),
+        REPLACED => earlier(bad_stamp(s, 1), earlier(bad_token(s, 9), bad_token(s, 65))),
+        _ => bad_stamp_or_token(s, k),
+    }
 }
 
-// Tokens, side and sweep. Each message opens with a token.
-fn bad_inbound(s: &[u8], k: usize) -> Place
-    requires { ⌜ (k < 4) × (length (now s) ≡ message k .size) ⌝ }
-    ensures { λ r. ⌜ r ≡ place (firstBadPlace (message k .fields) (now (s .entry))) ⌝ }
+// The same of what a client sends, wherever it stands: an entry of a tape has it eight bytes further on, behind its stamp.
+pub fn bad_inbound(s: &[u8], from: usize, k: usize) -> Place
+    requires { ⌜ (k < 4) × (messageLayout k .size + from ≤ length (now s)) ⌝ }
+    ensures { λ r. ⌜ r ≡ place (firstBadPlace (fieldsFrom from k) (now (s .entry))) ⌝ }
 {
-    let token = bad_token(s, 1);
-    if k == CANCEL_ORDER {
-        return token;
+    let token = bad_token(s, 1 + from);
+    match k {
+        ENTER_ORDER => earlier(
+            token,
+            earlier(bad_side(s, 15 + from), bad_sweep(s, 42 + from)),
+        ),
+        REPLACE_ORDER => earlier(
+            token,
+            earlier(bad_token(s, 15 + from), bad_sweep(s, 42 + from)),
+        ),
+        CANCEL_ORDER => token,
+        _ => earlier(token, bad_side(s, 15 + from)),
     }
-    if k == MODIFY_ORDER {
-        return earlier(token, bad_side(s, 15));
-    }
-    let sweep = bad_sweep(s, 42);
-    if k == ENTER_ORDER {
-        return earlier(token, earlier(bad_side(s, 15), sweep));
-    }
-    earlier(token, earlier(bad_token(s, 15), sweep))
 }
 
-// Stamp and tokens. Each message opens with a stamp, and all but one have a token behind it.
-fn bad_outbound(s: &[u8], k: usize) -> Place
-    requires { ⌜ ((4 ≤ k) × (k < 16)) × (length (now s) ≡ message k .size) ⌝ }
-    ensures { λ r. ⌜ r ≡ place (firstBadPlace (message k .fields) (now (s .entry))) ⌝ }
+// All others that the host sends have a stamp and one token, and nothing else of them is judged.
+fn bad_stamp_or_token(s: &[u8], k: usize) -> Place
+    requires { ⌜ ((4 < k) × (k ≡ 6 → ⊥)) × (length (now s) ≡ messageLayout k .size) ⌝ }
+    ensures { λ r. ⌜ r ≡ place (firstBadPlace (messageLayout k .fields) (now (s .entry))) ⌝ }
 {
-    let stamp = bad_stamp(s, 1);
-    if k == SYSTEM_EVENT {
-        return stamp;
+    if k < MESSAGES {
+        return earlier(bad_stamp(s, 1), bad_token(s, 9));
     }
-    let token = bad_token(s, 9);
-    if k == REPLACED {
-        return earlier(stamp, earlier(token, bad_token(s, 65)));
-    }
-    earlier(stamp, token)
+    Place::Nowhere
 }

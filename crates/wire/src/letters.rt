@@ -4,7 +4,7 @@ ghost use mathlib.Core.Path.{_≡_};
 ghost use Rattle.octets.specs.Choice.{among};
 ghost use Rattle.wire.specs.Letters.{sides, sellSides, sweeps, displays, capacities, crosses, openingOrClosing, liquidityFlags, bookReasons, systemEvents};
 
-pub fn is_side(b: u8) -> bool
+pub(crate) fn is_side(b: u8) -> bool
     ensures { λ r. ⌜ r ≡ among sides b ⌝ }
 {
     (b == b'B') | (b == b'S') | (b == b'T') | (b == b'E')
@@ -16,7 +16,7 @@ pub fn is_sell_side(b: u8) -> bool
     (b == b'S') | (b == b'T') | (b == b'E')
 }
 
-pub fn is_sweep(b: u8) -> bool
+pub(crate) fn is_sweep(b: u8) -> bool
     ensures { λ r. ⌜ r ≡ among sweeps b ⌝ }
 {
     (b == b'Y') | (b == b'N') | (b == b'y')
@@ -40,13 +40,13 @@ pub fn is_cross(b: u8) -> bool
     (b == b'N') | (b == b'O') | (b == b'C')
 }
 
-pub fn is_opening_or_closing(b: u8) -> bool
+pub(crate) fn is_opening_or_closing(b: u8) -> bool
     ensures { λ r. ⌜ r ≡ among openingOrClosing b ⌝ }
 {
     (b == b'O') | (b == b'C')
 }
 
-pub fn is_liquidity_flag(b: u8) -> bool
+pub(crate) fn is_liquidity_flag(b: u8) -> bool
     ensures { λ r. ⌜ r ≡ among liquidityFlags b ⌝ }
 {
     (b == b'A')
@@ -63,13 +63,13 @@ pub fn is_liquidity_flag(b: u8) -> bool
         | (b == b'V')
 }
 
-pub fn is_book_reason(b: u8) -> bool
+pub(crate) fn is_book_reason(b: u8) -> bool
     ensures { λ r. ⌜ r ≡ among bookReasons b ⌝ }
 {
     (b == b'I') | (b == b'T') | (b == b'S') | (b == b'D') | (b == b'Z') | (b == b'E')
 }
 
-pub fn is_system_event(b: u8) -> bool
+pub(crate) fn is_system_event(b: u8) -> bool
     ensures { λ r. ⌜ r ≡ among systemEvents b ⌝ }
 {
     (b == b'S') | (b == b'E')

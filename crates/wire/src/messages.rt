@@ -1,8 +1,8 @@
 // The sixteen messages by number, inbound first: their lengths and types as constant tables.
 ghost use mathlib.Core.Path.{_≡_};
 ghost use Prim.Native.Nat.{_<_, _≤_};
-ghost use lib.ListN.{take, drop};
-ghost use Rattle.wire.specs.Messages.{message, messages, lengthFor, messageLength};
+ghost use lib.ListN.{getD, take, drop};
+ghost use Rattle.wire.specs.Messages.{messageLayout, messages, lengthFor, messageLength};
 
 pub const ENTER_ORDER: usize = 0;
 
@@ -36,8 +36,11 @@ pub const PRIORITY_UPDATE: usize = 14;
 
 pub const MODIFIED: usize = 15;
 
+// How many there are.
+pub(crate) const MESSAGES: usize = 16;
+
 // O U X M, then S A U C D E B J P I T M. Bytes, because a table is copied where it is indexed.
-pub const LENGTHS: [u8; 16] = [
+const LENGTHS: [u8; 16] = [
     48,
     47,
     19,
@@ -75,19 +78,28 @@ const TYPES: [u8; 16] = [
     b'M',
 ];
 
-// What the tables hold is what the layouts say.
+// The length that message k's layout says. No message has a number from 16 on.
 pub fn size(k: usize) -> usize
-    requires { ⌜ k < 16 ⌝ }
-    ensures { λ r. ⌜ r ≡ message k .size ⌝ }
+    ensures { λ r. ⌜ r ≡ messageLayout k .size ⌝ }
 {
-    LENGTHS[k] as usize
+    if k < MESSAGES { LENGTHS[k] as usize } else { 0 }
 }
 
-pub fn letter_of(k: usize) -> u8
-    requires { ⌜ k < 16 ⌝ }
-    ensures { λ r. ⌜ r ≡ message k .code ⌝ }
+// The type that its layout says.
+pub(crate) fn letter_of(k: usize) -> u8
+    ensures { λ r. ⌜ r ≡ messageLayout k .code ⌝ }
 {
-    TYPES[k]
+    if k < MESSAGES { TYPES[k] } else { 0 }
+}
+
+// The type of what came in is its first byte: 0, which is no type, where there is none.
+pub(crate) fn first_byte(s: &[u8]) -> u8
+    ensures { λ r. ⌜ r ≡ getD (now (s .entry)) 0 0 ⌝ }
+{
+    if s.len() == 0 {
+        return 0;
+    }
+    s[0]
 }
 
 // The length of the message with this type, 0 where there is none. U and M are inbound or outbound, as the caller says.
@@ -95,9 +107,9 @@ pub fn message_length(inbound: bool, letter: u8) -> usize
     ensures { λ r. ⌜ r ≡ messageLength inbound letter ⌝ }
 {
     if inbound {
-        return length_among(0, 4, letter);
+        return length_among(0, SYSTEM_EVENT, letter);
     }
-    length_among(4, 16, letter)
+    length_among(SYSTEM_EVENT, MESSAGES, letter)
 }
 
 // The same among the messages from number `from` on and before number `to`.

@@ -21,7 +21,7 @@ pub enum Place {
 }
 
 // The nanoseconds of a day.
-const STAMP_END: u64 = 86_400_000_000_000;
+pub const STAMP_END: u64 = 86_400_000_000_000;
 
 // Of two places the first, where the fields that they are of stand in this order.
 pub fn earlier(a: Place, b: Place) -> Place

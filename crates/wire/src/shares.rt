@@ -1,8 +1,8 @@
-// The two kinds of share number, and all the arithmetic there is on them. A total counts from the start of an order's chain; removed shares
-// are the step between two totals. Nothing else compares, adds or subtracts share numbers, so the two kinds meet only here.
+// The two kinds of share number. A total counts from the start of an order's chain; removed shares are the step between two totals. The two
+// meet here and, where an order's executed and self-matched shares are added over 64 bits, in `orders::counts`, and nowhere else.
 ghost use mathlib.Core.Path.{_≡_};
 ghost use Prim.Native.Nat.{_+_, _<_, _^_};
-ghost use Rattle.wire.specs.Shares.{_isBelow_, _equals_, _together_, _less_, _grownBy_, _cutBy_, _exceeds_};
+ghost use Rattle.wire.specs.Shares.{_isBelow_, _equals_, _less_, _grownBy_, _cutBy_, _exceeds_};
 
 // Liable, executed, self-matched, an intended size, the Shares of O, U and M, a threshold.
 pub struct Total(pub u32);
@@ -21,14 +21,6 @@ impl Total {
         ensures { λ r. ⌜ r ≡ self equals other ⌝ }
     {
         self.0 == other.0
-    }
-
-    // The two counted together.
-    pub fn together(self, other: Total) -> Total
-        requires { ⌜ self .0 + other .0 < 2 ^ 32 ⌝ }
-        ensures { λ r. ⌜ r ≡ self together other ⌝ }
-    {
-        Total(self.0 + other.0)
     }
 
     // The step down to another total; none where that is not below.

@@ -1,8 +1,18 @@
-// A message is spelled into eighty bytes, the length of the longest, field by field at its offset.
+// A message is spelled into eighty bytes, the length of the longest: the type, then field by field at its offset.
 ghost use mathlib.Core.Path.{_≡_};
 ghost use Prim.Native.Nat.{_+_, _<_, _≤_};
 ghost use lib.ListN.{length};
-ghost use Rattle.octets.specs.Bytes.{put, digits};
+ghost use Rattle.octets.specs.Bytes.{put, digits, zeros};
+ghost use Rattle.wire.specs.Limits.{longestMessage};
+
+// The type, with zeros behind it.
+pub fn started(letter: u8) -> [u8; 80]
+    ensures { λ r. ⌜ r ≡ put (zeros longestMessage) 0 (digits 1 letter) ⌝ }
+{
+    let mut t = [0u8; 80];
+    put_letter(&mut t, 0, letter);
+    t
+}
 
 pub fn put_letter(t: &mut [u8; 80], at: usize, v: u8)
     requires { ⌜ at < 80 ⌝ }

@@ -2,7 +2,7 @@
 ghost use mathlib.Core.Path.{_≡_};
 ghost use Rattle.wire.specs.Text.{capital, small, digit, tokenByte, shaped};
 
-pub fn is_capital(b: u8) -> bool
+fn is_capital(b: u8) -> bool
     ensures { λ r. ⌜ r ≡ capital b ⌝ }
 {
     (b'A' <= b) & (b <= b'Z')

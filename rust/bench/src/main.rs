@@ -1,41 +1,58 @@
-//! The benchmark: the proved functions beside plain Rust, as ratios of one run.
+//! The benchmark: the proved functions beside plain Rust, as ratios of one run, over several runs.
 
 #![deny(unsafe_code)]
 
 mod plain;
 mod race;
+mod report;
+mod ring;
 mod rows;
 #[cfg(weighed)]
 mod scales;
 mod scene;
 
+use std::env;
 use std::process::ExitCode;
+
+use report::Line;
+use rows::Row;
 
 /// Used records of the tables that are stepped on.
 const USED: [usize; 3] = [1, 100, 800];
+/// How many runs there are where no number is given.
+const RUNS: usize = 9;
 
 fn main() -> ExitCode {
     if let Some(why) = pilaqsevi::absent() {
         eprintln!("nothing to measure: {why}");
         return ExitCode::FAILURE;
     }
-    println!("| what | proved | beside | its time | ratio | aim at most |");
-    println!("|---|---|---|---|---|---|");
-    for row in USED.into_iter().flat_map(rows::steps) {
-        println!("{row}");
-    }
-    #[cfg(weighed)]
-    for row in rows::weighed(USED) {
-        println!("{row}");
-    }
-    println!("{}", rows::release_alone());
-    for (inbound, message) in scene::messages() {
-        println!("{}", rows::codec(inbound, &message));
-    }
+    let Ok(runs) = env::args().nth(1).map_or(Ok(RUNS), |word| word.parse()) else {
+        eprintln!("usage: bench [RUNS]");
+        return ExitCode::FAILURE;
+    };
     if !cfg!(weighed) {
-        eprintln!(
-            "no libscales.a beside the archive: put and sound are not measured by themselves"
-        );
+        eprintln!("no libscales.a beside the archive: put and sound are left out");
+    }
+    println!("| what | proved | beside | its time | ratio | over {runs} runs | claim |");
+    println!("|---|---|---|---|---|---|---|");
+    for line in Line::all((0..runs).map(|_| run()).collect()) {
+        println!("{line}");
     }
     ExitCode::SUCCESS
+}
+
+/// All rows, once.
+fn run() -> Vec<Row> {
+    let mut rows: Vec<Row> = USED.into_iter().flat_map(rows::steps).collect();
+    #[cfg(weighed)]
+    rows.extend(rows::weighed(USED));
+    rows.extend(rows::release_alone());
+    let messages = scene::messages();
+    rows.extend(
+        messages
+            .iter()
+            .map(|(inbound, message)| rows::codec(*inbound, message)),
+    );
+    rows
 }

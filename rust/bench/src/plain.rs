@@ -1,4 +1,9 @@
-//! A table judged and searched as a Rust programmer would by hand: what the proved step is held to.
+//! A table judged and searched, and a whole step over it, as a Rust programmer would by hand: what
+//! the proved step is held to.
+
+use pilaqsevi::Marks;
+
+use crate::ring;
 
 const HEADER_LEN: usize = 64;
 const RECORD_LEN: usize = 80;
@@ -29,6 +34,63 @@ pub fn find(table: &[u8], token: &[u8; 14]) -> Option<usize> {
     let (header, records) = split(table)?;
     let used = records.get(..number(header, 4) as usize)?;
     used.iter().position(|record| record[1..15] == *token)
+}
+
+/// The whole step of a Modify: table, ring and entry judged, the order found, the rule decided,
+/// and record, header and message written. Another kind is answered 2, since none is measured.
+#[inline(never)]
+pub fn modify(table: &mut [u8], ring: &mut [u8], marks: &mut Marks, entry: &[u8]) -> u8 {
+    if !judge(table) {
+        return 10;
+    }
+    if !ring::right(ring.len(), *marks) {
+        return 11;
+    }
+    let Some(entry) = <&[u8; 28]>::try_from(entry).ok().filter(|e| e[0] == b'M') else {
+        return 2;
+    };
+    let stamp = long_number(entry, 1);
+    let legal = stamp < DAY_NANOS && token_legal(&entry[9..23]) && b"BSTE".contains(&entry[23]);
+    if !legal {
+        return 3;
+    }
+    if entry[1..9] < table[8..16] {
+        return 4;
+    }
+    let Some((place, open)) = modified(table, entry) else {
+        return 1;
+    };
+    // A Modified begins as its Modify does: type, stamp, token, side.
+    let mut sent = [0; 28];
+    sent[..24].copy_from_slice(&entry[..24]);
+    sent[24..].copy_from_slice(&open.to_be_bytes());
+    let answer = ring::put(ring, *marks, &sent);
+    if answer == 0 {
+        marks.held += sent.len();
+        table[8..16].copy_from_slice(&entry[1..9]);
+        let record = &mut table[HEADER_LEN + RECORD_LEN * place..][..RECORD_LEN];
+        record[15..20].copy_from_slice(&entry[23..28]);
+    }
+    answer
+}
+
+/// Which record a Modify changes, and what is open of it then; nothing where it is ignored.
+fn modified(table: &[u8], entry: &[u8; 28]) -> Option<(usize, u32)> {
+    let place = find(table, entry[9..23].try_into().ok()?)?;
+    let (_, records) = split(table)?;
+    let record = &records[place];
+    let (side, shares) = (entry[23], number(entry, 24));
+    let (old_side, liable) = (record[15], number(record, 16));
+    let spent = number(record, 20) + number(record, 24);
+    let among_sells = b"STE".contains(&side) && b"STE".contains(&old_side);
+    let taken = record[0] == b'L'
+        && table[0] == 1
+        && record[64] & 1 == 0
+        && (side == old_side || among_sells)
+        && spent < shares
+        && shares <= liable
+        && (side, shares) != (old_side, liable);
+    taken.then(|| (place, shares - spent))
 }
 
 /// The header and the records, where the length is a header's and some whole records'.
@@ -64,18 +126,20 @@ fn firm_shaped(firm: &[u8; 4]) -> bool {
 }
 
 fn record_sound(record: &Record) -> bool {
-    let token_legal = record[1..15]
-        .iter()
-        .all(|&byte| byte == b' ' || byte.is_ascii_alphanumeric());
     let liable = u64::from(number(record, 16));
     let spent = u64::from(number(record, 20)) + u64::from(number(record, 24));
-    token_legal
+    token_legal(&record[1..15])
         && match record[0] {
             b'L' => spent < liable && liable <= MOST_SHARES,
             b'D' => spent == liable && liable <= MOST_SHARES,
             b'R' => record[15..].iter().all(|&byte| byte == 0),
             _ => false,
         }
+}
+
+fn token_legal(token: &[u8]) -> bool {
+    let mut bytes = token.iter();
+    bytes.all(|&byte| byte == b' ' || byte.is_ascii_alphanumeric())
 }
 
 /// Four bytes of an array as a number; the places are constants, so nothing is left to check.
@@ -94,10 +158,11 @@ fn long_number<const N: usize>(bytes: &[u8; N], at: usize) -> u64 {
 
 #[cfg(test)]
 mod tests {
+    use pilaqsevi::Marks;
     use second::Host;
-    use second::tapes::{Chance, damage, sound_table};
+    use second::tapes::{Chance, Tapes, damage, sound_table};
 
-    use super::{find, judge};
+    use super::{find, judge, modify};
 
     #[test]
     fn judges_as_the_second_host_does() {
@@ -113,6 +178,38 @@ mod tests {
             *(if judged { &mut sound } else { &mut unsound }) += 1;
         }
         assert!(sound > 1_000 && unsound > 1_000, "{sound} {unsound}");
+    }
+
+    #[test]
+    fn modifies_as_the_second_host_does() {
+        let (mut chance, mut tapes) = (Chance::new(3), Tapes::new(3));
+        let mut answered = [0; 14];
+        while answered.iter().sum::<u32>() < 20_000 {
+            let records = 1 + chance.place(6);
+            let mut table = sound_table(&mut chance, records);
+            if chance.one_in(2) {
+                table[0] = 1;
+            }
+            let entry = tapes.entry(&table);
+            if entry.first() != Some(&b'M') {
+                continue;
+            }
+            if chance.one_in(8) {
+                damage::table(&mut chance, &mut table);
+            }
+            let mut ring = [0; 80];
+            let (at, held) = (chance.place(81), chance.place(82));
+            let mut marks = Marks { at, held };
+            let mut right = (table.clone(), ring, at, held);
+            let (t, r, a, h) = (&mut right.0, &mut right.1, &mut right.2, &mut right.3);
+            let answer = second::step(t, r, a, h, &entry);
+            assert_eq!(modify(&mut table, &mut ring, &mut marks, &entry), answer);
+            assert!((table, ring, marks.at, marks.held) == right);
+            answered[usize::from(answer)] += 1;
+        }
+        for answer in [0, 1, 2, 3, 4, 9, 10, 11] {
+            assert!(answered[answer] > 20, "{answered:?}");
+        }
     }
 
     #[test]

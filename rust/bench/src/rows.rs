@@ -1,7 +1,6 @@
 //! The rows of the benchmark: each measures a proved function beside plain Rust in one race.
 
 use std::collections::VecDeque;
-use std::fmt::{self, Display, Formatter};
 use std::hint::black_box;
 use std::time::Duration;
 
@@ -10,6 +9,7 @@ use second::{Host, Outbox};
 
 use crate::plain;
 use crate::race::{CALLS, race, timed};
+use crate::ring;
 #[cfg(weighed)]
 use crate::scales;
 use crate::scene::Scene;
@@ -20,39 +20,37 @@ const RING_LEN: usize = 4_096;
 const SENT: usize = 28;
 const _: () = assert!(SENT * CALLS as usize <= RING_LEN);
 
-/// One line of the table. The aim is the ratio that we want at most, where there is one.
+/// What a race measured. The claim is the ratio that we say it has at most, where we say one.
 pub struct Row {
     pub what: String,
     pub beside: &'static str,
     pub proved: f64,
     pub other: f64,
-    pub aim: Option<f64>,
+    pub claim: Option<f64>,
 }
 
-impl Display for Row {
-    fn fmt(&self, f: &mut Formatter) -> fmt::Result {
-        let aim = self.aim.map(|aim| format!("{aim:.1}")).unwrap_or_default();
-        write!(
-            f,
-            "| {} | {:.1} ns | {} | {:.1} ns | {:.2} | {aim} |",
-            self.what,
-            self.proved,
-            self.beside,
-            self.other,
-            self.proved / self.other
-        )
+impl Row {
+    fn new(what: &str, proved: f64, beside: &'static str, other: f64, claim: Option<f64>) -> Row {
+        Row {
+            what: what.into(),
+            beside,
+            proved,
+            other,
+            claim,
+        }
     }
 }
 
-/// A proved step beside judging and searching the same table by hand, and beside the second host,
-/// which judged once and keeps an index.
-pub fn steps(used: usize) -> [Row; 2] {
+/// A proved step beside plain Rust by hand: judging and searching the same table, which is a part
+/// of the job, and all of it; and beside the second host that judged once and keeps an index.
+pub fn steps(used: usize) -> Vec<Row> {
     let scene = Scene::new(used);
-    let mut proved = Proved::new(scene.clone());
+    let mut proved = Over::new(scene.clone());
+    let mut by_hand = Over::new(scene.clone());
     let mut host = Host::load(&scene.table).expect("the scene's table is sound");
     let mut outbox = Outbox::empty(RING_LEN).expect("the ring's length is right");
-    let [step, by_hand, kept] = race([
-        &mut || proved.done_steps(),
+    let [step, part, whole, kept] = race([
+        &mut || proved.steps(|table, ring, marks, entry| step(table, ring, marks, entry).number()),
         &mut || {
             timed(|| {
                 let table = black_box(scene.table.as_slice());
@@ -60,6 +58,7 @@ pub fn steps(used: usize) -> [Row; 2] {
                 assert!(black_box(found));
             })
         },
+        &mut || by_hand.steps(plain::modify),
         &mut || {
             outbox.release(outbox.held());
             let mut entries = scene.to_and_fro.iter().cycle();
@@ -69,26 +68,21 @@ pub fn steps(used: usize) -> [Row; 2] {
             })
         },
     ]);
-    let row = |beside, other, aim| Row {
-        what: format!("step, {used} used"),
-        beside,
-        proved: step,
-        other,
-        aim,
-    };
-    [
-        row("judge and find by hand", by_hand, Some(0.6)),
-        row("second host, kept", kept, None),
+    let what = format!("step, {used} used");
+    // With one record there is next to nothing to judge and to find.
+    let claim = (used > 1).then_some(0.6);
+    vec![
+        Row::new(&what, step, "plain: judge and find alone", part, claim),
+        Row::new(&what, step, "plain, the same job", whole, claim),
+        Row::new(&what, step, "second host, kept", kept, None),
     ]
 }
 
 /// What a step calls, by itself: judging tables with so many used records, and a put.
 #[cfg(weighed)]
 pub fn weighed(used: impl IntoIterator<Item = usize>) -> Vec<Row> {
-    used.into_iter()
-        .map(sound_alone)
-        .chain([put_alone()])
-        .collect()
+    let sounds = used.into_iter().map(sound_alone);
+    sounds.chain(put_alone()).collect()
 }
 
 #[cfg(weighed)]
@@ -98,49 +92,48 @@ fn sound_alone(used: usize) -> Row {
         &mut || timed(|| assert!(scales::sound(black_box(&table)))),
         &mut || timed(|| assert!(black_box(plain::judge(black_box(&table))))),
     ]);
-    Row {
-        what: format!("sound, {used} used"),
-        beside: "judge by hand",
-        proved,
-        other,
-        aim: None,
-    }
+    let claim = (used > 1).then_some(0.6);
+    let what = format!("sound, {used} used");
+    Row::new(&what, proved, "plain, judged alike", other, claim)
 }
 
+/// A put beside a deque, which judges nothing, and beside a ring by hand that judges alike.
 #[cfg(weighed)]
-fn put_alone() -> Row {
-    // A slice, since neither is to know the length beforehand.
+fn put_alone() -> Vec<Row> {
+    // A slice, since none is to know the length beforehand.
     let message = [0x5a; SENT].as_slice();
-    let mut ring = [0; RING_LEN];
+    let (mut lent, mut by_hand) = ([0; RING_LEN], [0; RING_LEN]);
     let mut deque = VecDeque::<u8>::with_capacity(RING_LEN);
-    let [proved, deque] = race([
-        &mut || {
-            let mut marks = Marks::default();
-            timed(|| {
-                let answer = scales::put(black_box(&mut ring), marks, black_box(message));
-                assert_eq!(answer, 0);
-                marks.held += SENT;
-            })
-        },
+    let [proved, plain, alike] = race([
+        &mut || puts(|marks| scales::put(black_box(&mut lent), marks, black_box(message))),
         &mut || {
             deque.clear();
             timed(|| black_box(&mut deque).extend(black_box(message)))
         },
+        &mut || puts(|marks| ring::put(black_box(&mut by_hand), marks, black_box(message))),
     ]);
-    Row {
-        what: format!("put of {SENT} bytes"),
-        beside: "VecDeque",
-        proved,
-        other: deque,
-        aim: Some(1.0),
-    }
+    let what = format!("put of {SENT} bytes");
+    vec![
+        Row::new(&what, proved, "plain: VecDeque", plain, None),
+        Row::new(&what, proved, "plain, judged alike", alike, Some(1.0)),
+    ]
 }
 
-/// Release alone.
-pub fn release_alone() -> Row {
+/// A turn of puts into a ring that holds nothing at first.
+#[cfg(weighed)]
+fn puts(mut put: impl FnMut(Marks) -> u8) -> Duration {
+    let mut marks = Marks::default();
+    timed(|| {
+        assert_eq!(put(marks), 0);
+        marks.held += SENT;
+    })
+}
+
+/// A release beside a deque, which judges nothing, and beside a ring by hand that judges alike.
+pub fn release_alone() -> Vec<Row> {
     let held = [0x5a; RING_LEN];
     let mut deque = VecDeque::<u8>::with_capacity(RING_LEN);
-    let [proved, deque] = race([
+    let [proved, plain, alike] = race([
         &mut || {
             let mut marks = full();
             timed(|| {
@@ -153,17 +146,22 @@ pub fn release_alone() -> Row {
             deque.extend(&held);
             timed(|| drop(black_box(&mut deque).drain(..black_box(SENT))))
         },
+        &mut || {
+            let mut marks = full();
+            timed(|| {
+                let answer = ring::release(black_box(RING_LEN), &mut marks, black_box(SENT));
+                assert_eq!(answer, 0);
+            })
+        },
     ]);
-    Row {
-        what: format!("release of {SENT} bytes"),
-        beside: "VecDeque",
-        proved,
-        other: deque,
-        aim: Some(1.0),
-    }
+    let what = format!("release of {SENT} bytes");
+    vec![
+        Row::new(&what, proved, "plain: VecDeque", plain, None),
+        Row::new(&what, proved, "plain, judged alike", alike, Some(1.0)),
+    ]
 }
 
-/// A message read and written back.
+/// A message read and written back; the second host judges alike.
 pub fn codec(inbound: bool, message: &[u8]) -> Row {
     let (mut out, mut other_out) = ([0; 80], [0; 80]);
     let [proved, other] = race([
@@ -181,17 +179,9 @@ pub fn codec(inbound: bool, message: &[u8]) -> Row {
         },
     ]);
     let direction = if inbound { "in" } else { "out" };
-    let letter = char::from(message[0]);
-    Row {
-        what: format!(
-            "read and write {letter} ({direction}, {} bytes)",
-            message.len()
-        ),
-        beside: "second host",
-        proved,
-        other,
-        aim: Some(1.0),
-    }
+    let (letter, len) = (char::from(message[0]), message.len());
+    let what = format!("read and write {letter} ({direction}, {len} bytes)");
+    Row::new(&what, proved, "second host", other, Some(1.0))
 }
 
 /// Marks of a ring that is full.
@@ -202,26 +192,29 @@ fn full() -> Marks {
     }
 }
 
-/// The proved host over a scene.
-struct Proved {
+/// A scene of a host's own, and a ring.
+struct Over {
     scene: Scene,
     ring: [u8; RING_LEN],
 }
 
-impl Proved {
-    fn new(scene: Scene) -> Proved {
+impl Over {
+    fn new(scene: Scene) -> Over {
         let ring = [0; RING_LEN];
-        Proved { scene, ring }
+        Over { scene, ring }
     }
 
     /// A turn of steps that are done.
-    fn done_steps(&mut self) -> Duration {
+    fn steps(
+        &mut self,
+        mut step: impl FnMut(&mut [u8], &mut [u8], &mut Marks, &[u8]) -> u8,
+    ) -> Duration {
         let mut entries = self.scene.to_and_fro.iter().cycle();
         let mut marks = Marks::default();
         timed(|| {
             let entry = entries.next().expect("a cycle has no end");
             let answer = step(&mut self.scene.table, &mut self.ring, &mut marks, entry);
-            assert_eq!(answer, Answer::Done);
+            assert_eq!(answer, 0);
         })
     }
 }

@@ -1,11 +1,12 @@
-//! A desk: a table, a ring and its marks, at which a host obeys commands as the mirror does.
+//! A desk: a table, a ring and its marks, at which a host obeys commands.
 
 use pilaqsevi::Marks;
 
 use crate::command::{Command, Settings};
 use crate::host::Host;
 
-/// The mirror's state; at the start there is nothing.
+/// What stands between commands; at the start there is nothing. The door's own desk is always
+/// right, and this one may be damaged.
 #[derive(Clone, Debug, Default, PartialEq, Eq)]
 pub struct Desk {
     pub table: Vec<u8>,
@@ -14,8 +15,9 @@ pub struct Desk {
 }
 
 impl Desk {
-    /// Has the host obey a command, and appends what the mirror must write for it.
-    pub fn obey(&mut self, host: &impl Host, command: &Command, wrote: &mut Vec<u8>) {
+    /// Has the host obey a command, and appends all that the command left: the answer, and every
+    /// byte and mark that it could have changed.
+    pub fn obey(&mut self, host: &impl Host, command: &Command, left: &mut Vec<u8>) {
         match command {
             Command::Table(table) => self.table.clone_from(table),
             Command::Ring { ring, marks } => {
@@ -24,36 +26,36 @@ impl Desk {
             }
             Command::Fresh(settings) => {
                 let firms = listed(settings);
-                wrote.push(host.fresh(&mut self.table, settings.threshold, &firms));
-                wrote.extend(&self.table);
+                left.push(host.fresh(&mut self.table, settings.threshold, &firms));
+                left.extend(&self.table);
             }
             Command::Step(entry) => {
                 let Desk { table, ring, marks } = self;
-                wrote.push(host.step(table, ring, marks, entry));
-                self.tell_marks(wrote);
-                wrote.extend(&self.table);
-                wrote.extend(&self.ring);
+                left.push(host.step(table, ring, marks, entry));
+                self.tell_marks(left);
+                left.extend(&self.table);
+                left.extend(&self.ring);
             }
             Command::Release(k) => {
-                wrote.push(host.release(self.ring.len(), &mut self.marks, *k as usize));
-                self.tell_marks(wrote);
+                left.push(host.release(self.ring.len(), &mut self.marks, *k));
+                self.tell_marks(left);
             }
             Command::Read => {
                 let run = host.read(&self.ring, self.marks);
-                wrote.extend((run.len() as u32).to_be_bytes());
-                wrote.extend(run);
+                left.extend((run.len() as u32).to_be_bytes());
+                left.extend(run);
             }
             Command::Echo(echo) => {
-                let mut out = vec![echo.fill; usize::from(echo.out_len)];
-                wrote.push(host.echo(echo.inbound, &echo.message, &mut out));
-                wrote.extend(out);
+                let mut out = vec![echo.fill; echo.out_len];
+                left.push(host.echo(echo.inbound, &echo.message, &mut out));
+                left.extend(out);
             }
         }
     }
 
-    fn tell_marks(&self, wrote: &mut Vec<u8>) {
-        wrote.extend((self.marks.at as u64).to_be_bytes());
-        wrote.extend((self.marks.held as u64).to_be_bytes());
+    fn tell_marks(&self, left: &mut Vec<u8>) {
+        left.extend((self.marks.at as u64).to_be_bytes());
+        left.extend((self.marks.held as u64).to_be_bytes());
     }
 }
 

@@ -4,13 +4,12 @@
 //! mostly so tight that entries are blocked; between its entries the desk is read and released,
 //! damaged and mended.
 
-use std::io;
-
 use pilaqsevi::Marks;
 use second::tapes::{Chance, Tapes, damage, message, settings, sound_table, worn_out};
 
-use crate::command::{Command, Echo, LONGEST_MESSAGE, LONGEST_RING, LONGEST_TABLE, Settings};
+use crate::command::{Command, Echo, Settings};
 use crate::desk::Desk;
+use crate::difference::Difference;
 use crate::host::Second;
 use crate::sinks::Sink;
 use crate::tally::Tally;
@@ -23,39 +22,22 @@ const HEADER_LEN: usize = 64;
 const RECORD_LEN: usize = 80;
 /// The most records of a table.
 const MOST_RECORDS: usize = 800;
-/// About what a step over a short table and ring shows.
+/// The longest ring, and the longest entry and message that are tried: longer than any kind has.
+const LONGEST_RING: usize = 65_536;
+const LONGEST_TRIED: usize = 1_024;
+/// What the steps of a usual day may come to in bytes, since each shows the whole table and ring,
+/// and about what one over a short table and ring shows.
+const DAY: usize = 200_000;
 const SHORT_STEP: usize = 500;
 /// So many entries refused in a row end a day: the next one has more to show.
 const PATIENCE: u32 = 10;
 
-/// How far a script goes: the longest tables and rings, and what the steps of a usual day may come
-/// to in bytes, since each shows the whole table and ring.
-#[derive(Clone, Copy, Debug)]
-pub struct Reach {
-    table: usize,
-    ring: usize,
-    day: usize,
-}
-
-impl Reach {
-    /// What the mirror has room for, in days that keep its files small.
-    pub const MIRROR: Reach = Reach {
-        table: LONGEST_TABLE,
-        ring: LONGEST_RING,
-        day: 60_000,
-    };
-    /// Any length, so that lengths above the paper's are tried too, in longer days.
-    pub const ANY: Reach = Reach {
-        table: usize::MAX,
-        ring: usize::MAX,
-        day: 600_000,
-    };
-}
+/// What the sink makes of a command: nothing, or the first difference.
+type Told<T> = Result<T, Box<Difference>>;
 
 /// Makes the commands of one script.
 pub struct Driver<S> {
     chance: Chance,
-    reach: Reach,
     sink: S,
     desk: Desk,
     expected: Vec<u8>,
@@ -64,10 +46,9 @@ pub struct Driver<S> {
 
 impl<S: Sink> Driver<S> {
     /// Drives at least so many entries, and gives the tally.
-    pub fn drive(seed: u64, entries: u64, reach: Reach, sink: S) -> io::Result<Tally> {
+    pub fn drive(seed: u64, entries: u64, sink: S) -> Told<Tally> {
         let mut driver = Driver {
             chance: Chance::new(seed),
-            reach,
             sink,
             desk: Desk::default(),
             expected: Vec::new(),
@@ -80,7 +61,7 @@ impl<S: Sink> Driver<S> {
     }
 
     /// One day: a table, a ring, and entries until the table is worn out or the day is long enough.
-    fn day(&mut self, entries: u64) -> io::Result<()> {
+    fn day(&mut self, entries: u64) -> Told<()> {
         self.lay_table()?;
         self.lay_ring()?;
         let mut tapes = Tapes::new(self.chance.number());
@@ -110,14 +91,13 @@ impl<S: Sink> Driver<S> {
 
     /// How many entries a day has: few with a long table or ring, and now and then more.
     fn day_length(&mut self) -> usize {
-        let day = self.reach.day;
-        let bytes = if self.chance.one_in(20) { 3 * day } else { day };
+        let bytes = if self.chance.one_in(20) { 3 * DAY } else { DAY };
         let shown = self.desk.table.len() + self.desk.ring.len();
-        (bytes / shown).clamp(3, day / SHORT_STEP)
+        (bytes / shown).clamp(3, DAY / SHORT_STEP)
     }
 
     /// What happens now and then between two entries.
-    fn interlude(&mut self, tapes: &mut Tapes) -> io::Result<()> {
+    fn interlude(&mut self, tapes: &mut Tapes) -> Told<()> {
         match self.chance.below(100) {
             0..=3 => self.spoil_table(tapes),
             4..=5 => self.spoil_ring(tapes),
@@ -128,7 +108,7 @@ impl<S: Sink> Driver<S> {
     }
 
     /// A sound table: by hand, or fresh over whatever stood there.
-    fn lay_table(&mut self) -> io::Result<()> {
+    fn lay_table(&mut self) -> Told<()> {
         let records = match self.chance.below(300) {
             0 => MOST_RECORDS,
             1..=3 => 9 + self.chance.place(32),
@@ -147,7 +127,7 @@ impl<S: Sink> Driver<S> {
     }
 
     /// Settings of all kinds; the answer tells whether they were good.
-    fn fresh(&mut self) -> io::Result<u8> {
+    fn fresh(&mut self) -> Told<u8> {
         let (threshold, listed) = settings(&mut self.chance);
         let mut firms = [[0; 4]; 8];
         if self.chance.one_in(3) {
@@ -170,7 +150,7 @@ impl<S: Sink> Driver<S> {
     }
 
     /// A fresh call in the midst of a day; the table is put back if the settings were good.
-    fn fresh_aside(&mut self) -> io::Result<()> {
+    fn fresh_aside(&mut self) -> Told<()> {
         let kept = self.desk.table.clone();
         if self.fresh()? == DONE {
             self.give(&Command::Table(kept))?;
@@ -179,7 +159,7 @@ impl<S: Sink> Driver<S> {
     }
 
     /// A ring of a right length with right marks, and sometimes bytes that are held already.
-    fn lay_ring(&mut self) -> io::Result<()> {
+    fn lay_ring(&mut self) -> Told<()> {
         let len = match self.chance.below(1_000) {
             0 => self.chance.pick(&[LONGEST_RING, LONGEST_RING - 1]),
             1 => 4_096 + self.chance.place(LONGEST_RING - 4_096),
@@ -204,7 +184,7 @@ impl<S: Sink> Driver<S> {
     fn next_entry(&mut self, tapes: &mut Tapes) -> Vec<u8> {
         let mut entry = tapes.entry(&self.desk.table);
         if self.chance.one_in(400) {
-            entry.resize(self.chance.place(LONGEST_MESSAGE + 1), b' ');
+            entry.resize(self.chance.place(LONGEST_TRIED + 1), b' ');
         } else if self.chance.one_in(40) {
             entry = damage::entry(&mut self.chance, entry);
         }
@@ -212,7 +192,7 @@ impl<S: Sink> Driver<S> {
     }
 
     /// Offers an entry, and a blocked one again until it isn't blocked any more; the last answer.
-    fn offer(&mut self, entry: Vec<u8>) -> io::Result<u8> {
+    fn offer(&mut self, entry: Vec<u8>) -> Told<u8> {
         let step = Command::Step(entry);
         loop {
             let answer = self.give(&step)?;
@@ -229,7 +209,7 @@ impl<S: Sink> Driver<S> {
     }
 
     /// Reads and releases, and now and then asks for what is refused.
-    fn drain(&mut self) -> io::Result<()> {
+    fn drain(&mut self) -> Told<()> {
         self.refused_release()?;
         self.read()?;
         let k = self.part_of_held();
@@ -245,7 +225,7 @@ impl<S: Sink> Driver<S> {
     }
 
     /// Now and then a release of more than is held.
-    fn refused_release(&mut self) -> io::Result<()> {
+    fn refused_release(&mut self) -> Told<()> {
         if !self.chance.one_in(6) {
             return Ok(());
         }
@@ -255,13 +235,13 @@ impl<S: Sink> Driver<S> {
         self.release(k)
     }
 
-    fn release(&mut self, k: usize) -> io::Result<()> {
-        self.give(&Command::Release(k as u64))?;
+    fn release(&mut self, k: usize) -> Told<()> {
+        self.give(&Command::Release(k))?;
         Ok(())
     }
 
     /// Mostly reads before a release, as a sender does.
-    fn read(&mut self) -> io::Result<()> {
+    fn read(&mut self) -> Told<()> {
         if !self.chance.one_in(4) {
             self.give(&Command::Read)?;
         }
@@ -269,14 +249,10 @@ impl<S: Sink> Driver<S> {
     }
 
     /// Offers entries to a damaged copy of the table, or makes it fresh; then puts the table back.
-    fn spoil_table(&mut self, tapes: &mut Tapes) -> io::Result<()> {
+    fn spoil_table(&mut self, tapes: &mut Tapes) -> Told<()> {
         let kept = self.desk.table.clone();
         let mut spoilt = kept.clone();
         damage::table(&mut self.chance, &mut spoilt);
-        while spoilt.len() > self.reach.table {
-            spoilt.clone_from(&kept);
-            damage::table(&mut self.chance, &mut spoilt);
-        }
         self.give(&Command::Table(spoilt))?;
         if self.chance.one_in(8) {
             self.fresh()?;
@@ -290,7 +266,7 @@ impl<S: Sink> Driver<S> {
 
     /// Offers an entry to what is spoilt already, and often spoils the entry too: of several faults
     /// only the first in the paper's order may be told.
-    fn offer_spoilt(&mut self, tapes: &mut Tapes) -> io::Result<()> {
+    fn offer_spoilt(&mut self, tapes: &mut Tapes) -> Told<()> {
         let mut entry = self.next_entry(tapes);
         if self.chance.one_in(4) {
             entry = damage::misread(&mut self.chance, entry);
@@ -300,12 +276,12 @@ impl<S: Sink> Driver<S> {
     }
 
     /// Steps, reads and releases over wrong marks or a wrong ring; then puts the ring back.
-    fn spoil_ring(&mut self, tapes: &mut Tapes) -> io::Result<()> {
+    fn spoil_ring(&mut self, tapes: &mut Tapes) -> Told<()> {
         let Desk { ring, marks, .. } = self.desk.clone();
         let kept = Command::Ring { ring, marks };
         let mut len = self.desk.ring.len();
         match self.chance.below(16) {
-            0 => len = damage::ring_length(&mut self.chance).min(self.reach.ring),
+            0 => len = damage::ring_length(&mut self.chance),
             1..=5 => len = self.chance.pick(&[0, 1, 79, 80]),
             _ => {}
         }
@@ -328,17 +304,17 @@ impl<S: Sink> Driver<S> {
     }
 
     /// A message for the readers and writers, with buffers around its length.
-    fn echo(&mut self) -> io::Result<()> {
+    fn echo(&mut self) -> Told<()> {
         let (inbound, mut message) = message(&mut self.chance);
         if self.chance.one_in(200) {
-            message.resize(self.chance.place(LONGEST_MESSAGE + 1), b' ');
+            message.resize(self.chance.place(LONGEST_TRIED + 1), b' ');
         }
         let len = message.len();
         let out_len = match self.chance.below(10) {
             0 => 0,
             1 => len.saturating_sub(1),
             2 => self.chance.place(len),
-            3 => self.chance.place(LONGEST_MESSAGE / 8),
+            3 => self.chance.place(LONGEST_TRIED / 8),
             4..=6 => len,
             _ => len + self.chance.place(24),
         };
@@ -346,7 +322,7 @@ impl<S: Sink> Driver<S> {
         self.give(&Command::Echo(Echo {
             inbound,
             message,
-            out_len: out_len.min(LONGEST_MESSAGE) as u16,
+            out_len,
             fill,
         }))?;
         Ok(())
@@ -361,7 +337,7 @@ impl<S: Sink> Driver<S> {
     }
 
     /// Gives one command to the second host and then to the sink; the answer, where it has one.
-    fn give(&mut self, command: &Command) -> io::Result<u8> {
+    fn give(&mut self, command: &Command) -> Told<u8> {
         self.expected.clear();
         self.desk.obey(&Second, command, &mut self.expected);
         self.tally.count(command, &self.expected);

@@ -1,8 +1,8 @@
 //! The comparison of two hosts: one seeded script of calls, obeyed by both, byte for byte.
 //!
 //! A [`Driver`] makes the script as it goes, looking at what the second host left after each call,
-//! and hands every call and its right outcome to a [`Sink`]: into files for the program `mirror`,
-//! or to another host in the same process.
+//! and hands every call and its right outcome to a [`Sink`]: to the proved host through its door,
+//! or to a broken one, which must be found out.
 
 #![forbid(unsafe_code)]
 
@@ -14,10 +14,10 @@ mod host;
 mod sinks;
 mod tally;
 
-pub use command::{Command, Echo, LONGEST_MESSAGE, LONGEST_RING, LONGEST_TABLE, Settings};
+pub use command::{Command, Echo, Settings};
 pub use desk::Desk;
-pub use difference::{Difference, explain};
-pub use driver::{Driver, Reach};
+pub use difference::Difference;
+pub use driver::Driver;
 pub use host::{Host, Proved, Second};
-pub use sinks::{Beside, Files, Sink, mirror};
+pub use sinks::{Beside, Sink};
 pub use tally::Tally;

@@ -1,36 +1,21 @@
-//! Where a driver's commands go: into two files, or to another host that is compared at once.
-
-use std::io::{self, Read, Write};
+//! Where a driver's commands go: to another host, which is compared at once.
 
 use crate::command::Command;
 use crate::desk::Desk;
 use crate::difference::Difference;
-use crate::host::{Host, Second};
+use crate::host::Host;
 
-/// Takes each command with what it must write.
+/// Takes each command with what it must leave; the first difference ends the script.
 pub trait Sink {
-    fn take(&mut self, command: &Command, expected: &[u8]) -> io::Result<()>;
+    fn take(&mut self, command: &Command, expected: &[u8]) -> Result<(), Box<Difference>>;
 }
 
-/// Writes the script and what the mirror must write for it.
-pub struct Files<I, E> {
-    pub input: I,
-    pub expected: E,
-}
-
-impl<I: Write, E: Write> Sink for Files<I, E> {
-    fn take(&mut self, command: &Command, expected: &[u8]) -> io::Result<()> {
-        command.write(&mut self.input)?;
-        self.expected.write_all(expected)
-    }
-}
-
-/// Has another host obey the same commands at a desk of its own; the first difference is an error.
+/// Has another host obey the same commands at a desk of its own.
 pub struct Beside<H> {
     host: H,
     desk: Desk,
     before: Desk,
-    wrote: Vec<u8>,
+    left: Vec<u8>,
     commands: u64,
 }
 
@@ -40,39 +25,27 @@ impl<H: Host> Beside<H> {
             host,
             desk: Desk::default(),
             before: Desk::default(),
-            wrote: Vec::new(),
+            left: Vec::new(),
             commands: 0,
         }
     }
 }
 
 impl<H: Host> Sink for Beside<H> {
-    fn take(&mut self, command: &Command, expected: &[u8]) -> io::Result<()> {
+    fn take(&mut self, command: &Command, expected: &[u8]) -> Result<(), Box<Difference>> {
         self.commands += 1;
         self.before.clone_from(&self.desk);
-        self.wrote.clear();
-        self.desk.obey(&self.host, command, &mut self.wrote);
-        if self.wrote == expected {
+        self.left.clear();
+        self.desk.obey(&self.host, command, &mut self.left);
+        if self.left == expected {
             return Ok(());
         }
-        Err(io::Error::other(Difference {
+        Err(Box::new(Difference {
             number: self.commands,
             command: command.clone(),
             before: self.before.clone(),
             expected: expected.to_vec(),
-            wrote: self.wrote.clone(),
+            left: self.left.clone(),
         }))
     }
-}
-
-/// The mirror itself, by the second host: reads a script and writes what each command left.
-pub fn mirror(script: &mut impl Read, out: &mut impl Write) -> io::Result<()> {
-    let mut desk = Desk::default();
-    let mut wrote = Vec::new();
-    while let Some(command) = Command::read(script)? {
-        wrote.clear();
-        desk.obey(&Second, &command, &mut wrote);
-        out.write_all(&wrote)?;
-    }
-    Ok(())
 }

@@ -15,12 +15,12 @@ pub struct Tally {
     pub releases: [u64; ANSWERS],
     pub echoes: [u64; ANSWERS],
     pub reads: u64,
-    /// What the mirror must write in all.
+    /// What the calls left in all, every byte of which was compared.
     pub bytes: u64,
 }
 
 impl Tally {
-    /// Counts a command and what it must write.
+    /// Counts a command and what it must leave.
     pub fn count(&mut self, command: &Command, expected: &[u8]) {
         self.bytes += expected.len() as u64;
         let answer = expected.first().copied().map_or(0, usize::from);
@@ -55,6 +55,6 @@ impl Display for Tally {
                 .collect();
             write!(f, "{}), ", listed.join(", "))?;
         }
-        write!(f, "{} reads, {} bytes", self.reads, self.bytes)
+        write!(f, "{} reads; {} bytes compared", self.reads, self.bytes)
     }
 }

@@ -1,49 +1,32 @@
-//! Scripts: a seed repeats one, the mirror plays it as expected, and it reaches everything.
+//! Scripts: a seed repeats one, and it reaches everything.
 
 use std::collections::BTreeSet;
-use std::io;
 
-use compare::{Command, Desk, Driver, Files, Reach, Second, Sink, Tally, explain, mirror};
+use compare::{Command, Desk, Difference, Driver, Second, Sink};
 use pilaqsevi::Marks;
 
-/// The script of a seed and what the mirror must write.
-fn script(seed: u64, entries: u64) -> (Vec<u8>, Vec<u8>, Tally) {
-    let (mut input, mut expected) = (Vec::new(), Vec::new());
-    let files = Files {
-        input: &mut input,
-        expected: &mut expected,
-    };
-    let tally = Driver::drive(seed, entries, Reach::MIRROR, files).unwrap();
-    (input, expected, tally)
+/// All commands of a script.
+#[derive(Default)]
+struct Kept(Vec<Command>);
+
+impl Sink for &mut Kept {
+    fn take(&mut self, command: &Command, _: &[u8]) -> Result<(), Box<Difference>> {
+        self.0.push(command.clone());
+        Ok(())
+    }
+}
+
+fn script(seed: u64, entries: u64) -> Vec<Command> {
+    let mut kept = Kept::default();
+    let tally = Driver::drive(seed, entries, &mut kept).unwrap();
+    assert!(tally.entries() >= entries);
+    kept.0
 }
 
 #[test]
 fn a_seed_repeats_its_script() {
     assert!(script(5, 500) == script(5, 500));
     assert!(script(5, 500) != script(6, 500));
-}
-
-#[test]
-fn the_mirror_writes_what_is_expected() {
-    let (input, expected, tally) = script(7, 3_000);
-    let mut wrote = Vec::new();
-    mirror(&mut input.as_slice(), &mut wrote).unwrap();
-    assert!(wrote == expected);
-    assert_eq!(tally.bytes, expected.len() as u64);
-    assert!(tally.entries() >= 3_000);
-    let none = explain(&mut input.as_slice(), &mut wrote.as_slice()).unwrap();
-    assert!(none.is_none());
-}
-
-#[test]
-fn a_changed_or_missing_byte_is_explained() {
-    let (input, mut wrote, _) = script(8, 300);
-    let last = wrote.len() - 1;
-    wrote[last] ^= 1;
-    let changed = explain(&mut input.as_slice(), &mut wrote.as_slice()).unwrap();
-    assert!(changed.is_some());
-    let cut = explain(&mut input.as_slice(), &mut &wrote[..last]).unwrap();
-    assert!(cut.is_some_and(|cut| cut.wrote.len() + 1 == cut.expected.len()));
 }
 
 /// What a script reached: calls with their answers, and messages with their reasons.
@@ -55,10 +38,9 @@ struct Seen {
 }
 
 impl Sink for &mut Seen {
-    fn take(&mut self, command: &Command, expected: &[u8]) -> io::Result<()> {
+    fn take(&mut self, command: &Command, expected: &[u8]) -> Result<(), Box<Difference>> {
         self.before.clone_from(&self.desk);
         self.desk.obey(&Second, command, &mut Vec::new());
-        let letter = char::from(command.letter());
         let answer = expected.first().copied().unwrap_or(0);
         match command {
             Command::Step(entry) => self.note_step(entry, answer),
@@ -67,9 +49,8 @@ impl Sink for &mut Seen {
                 let inbound = echo.inbound;
                 self.what.insert(format!("E {inbound} {kind} {answer}"));
             }
-            Command::Fresh(_) | Command::Release(_) => {
-                self.what.insert(format!("{letter} {answer}"));
-            }
+            Command::Fresh(_) => _ = self.what.insert(format!("F {answer}")),
+            Command::Release(_) => _ = self.what.insert(format!("L {answer}")),
             Command::Read | Command::Table(_) | Command::Ring { .. } => {}
         }
         Ok(())
@@ -112,7 +93,7 @@ impl Seen {
 
 fn seen(seed: u64, entries: u64) -> BTreeSet<String> {
     let mut seen = Seen::default();
-    Driver::drive(seed, entries, Reach::MIRROR, &mut seen).unwrap();
+    Driver::drive(seed, entries, &mut seen).unwrap();
     seen.what
 }
 
@@ -173,60 +154,18 @@ fn a_script_reaches_every_answer_message_and_reason() {
     assert!(wanted.is_empty(), "never seen: {wanted:?}");
 }
 
-/// The longest tables and rings of a script fit the mirror, and a direct run goes beyond.
+/// Lengths above the paper's are tried too.
 #[test]
-fn reach_bounds_tables_and_rings() {
-    struct Longest(usize, usize);
-    impl Sink for &mut Longest {
-        fn take(&mut self, command: &Command, _: &[u8]) -> io::Result<()> {
-            match command {
-                Command::Table(table) => self.0 = self.0.max(table.len()),
-                Command::Ring { ring, .. } => self.1 = self.1.max(ring.len()),
-                _ => {}
-            }
-            Ok(())
-        }
-    }
-    for (reach, table, ring) in [
-        (Reach::MIRROR, 64_064, 65_536),
-        (Reach::ANY, 64_144, 65_537),
-    ] {
-        let mut longest = Longest(0, 0);
-        Driver::drive(2, 40_000, reach, &mut longest).unwrap();
-        assert_eq!((longest.0, longest.1), (table, ring));
-    }
-}
-
-#[test]
-fn commands_are_read_as_they_are_written() {
-    let (input, ..) = script(9, 2_000);
-    let mut written = Vec::new();
-    let mut rest = input.as_slice();
-    while let Some(command) = Command::read(&mut rest).unwrap() {
-        command.write(&mut written).unwrap();
-    }
-    assert!(written == input);
-}
-
-/// An unknown byte, a length without room and a cut command each end a run.
-#[test]
-fn a_run_ends_where_the_protocol_says() {
-    let ends: [&[u8]; 9] = [
-        b"",
-        b"?D",
-        b"T\0\0\0\x02a",
-        b"T\0\0\xfa\x41",
-        b"R\0\x01\0\x01",
-        b"R\0\0\0\0\0\0\0\0\0\0\0\0\0\0\0",
-        b"S\x04\x01",
-        b"E\x02\0\0\0\0\0",
-        b"E\x01\0\0\x04\x01\0",
-    ];
-    for end in ends {
-        let script = [b"D", end].concat();
-        let mut wrote = Vec::new();
-        mirror(&mut script.as_slice(), &mut wrote).unwrap();
-        // The length of an empty run, and nothing for the rest.
-        assert_eq!(wrote, [0; 4], "{end:?}");
-    }
+fn a_script_goes_beyond_the_longest_table_and_ring() {
+    let script = script(2, 40_000);
+    let longest = |length: fn(&Command) -> usize| script.iter().map(length).max();
+    let table = longest(|command| match command {
+        Command::Table(table) => table.len(),
+        _ => 0,
+    });
+    let ring = longest(|command| match command {
+        Command::Ring { ring, .. } => ring.len(),
+        _ => 0,
+    });
+    assert_eq!((table, ring), (Some(64_144), Some(65_537)));
 }

@@ -1,20 +1,20 @@
-//! The paper's answer numbers, under names.
+//! What a call answers, under the core's names.
 
-/// What a call answers; its discriminant is the paper's number.
+/// An answer; its discriminant is the paper's number.
 #[derive(Clone, Copy, Debug, PartialEq, Eq, Hash)]
 #[repr(u8)]
 #[must_use]
 pub enum Answer {
-    /// Done: the only answer that changes anything.
+    /// The only answer that changes anything.
     Done = 0,
     /// The rules ignore the entry.
     Ignored = 1,
-    /// An unknown kind, or a length that isn't the kind's.
-    WrongKindOrLength = 2,
+    /// An unknown kind or type, or a length that isn't its.
+    Malformed = 2,
     /// A bad stamp, token or letter, a bad price of p, or bad settings.
     BadField = 3,
     /// The stamp is below the last one.
-    StampBelowLast = 4,
+    TooEarly = 4,
     /// The token isn't live.
     NotLive = 5,
     /// Shares are 0 or above what is open.
@@ -22,37 +22,19 @@ pub enum Answer {
     /// The wrong moment for this entry.
     WrongMoment = 7,
     /// No record is free, or no reference is left.
-    NothingFree = 8,
-    /// The ring has no room for the message; nothing was changed, and the entry can be offered
-    /// again.
-    NoRoom = 9,
+    Full = 8,
+    /// The message is longer than what is free in the ring. The entry may be offered again once
+    /// bytes were released, and comes to the same.
+    Blocked = 9,
     /// The table isn't sound.
-    TableNotSound = 10,
+    NotSound = 10,
     /// The ring's length or its marks are wrong.
-    WrongMarks = 11,
+    WrongRing = 11,
     /// More was to be released than is held.
-    ReleaseAboveHeld = 12,
-    /// The buffer is too short for the message.
-    BufferTooShort = 13,
+    NotHeld = 12,
+    /// The buffer is too short for the echo's message.
+    NoRoom = 13,
 }
-
-/// The answers in the order of their numbers.
-const ANSWERS: [Answer; 14] = [
-    Answer::Done,
-    Answer::Ignored,
-    Answer::WrongKindOrLength,
-    Answer::BadField,
-    Answer::StampBelowLast,
-    Answer::NotLive,
-    Answer::WrongShares,
-    Answer::WrongMoment,
-    Answer::NothingFree,
-    Answer::NoRoom,
-    Answer::TableNotSound,
-    Answer::WrongMarks,
-    Answer::ReleaseAboveHeld,
-    Answer::BufferTooShort,
-];
 
 impl Answer {
     /// The paper's number.
@@ -62,20 +44,41 @@ impl Answer {
 
     /// The answer of a number. The proved functions give these only, so that another one means
     /// that some other archive was linked.
+    #[inline]
     pub(crate) fn of(number: u8) -> Answer {
-        let answer = ANSWERS.get(usize::from(number)).copied();
-        answer.unwrap_or_else(|| panic!("the archive answered {number}, which is no answer"))
+        match number {
+            0 => Answer::Done,
+            1 => Answer::Ignored,
+            2 => Answer::Malformed,
+            3 => Answer::BadField,
+            4 => Answer::TooEarly,
+            5 => Answer::NotLive,
+            6 => Answer::WrongShares,
+            7 => Answer::WrongMoment,
+            8 => Answer::Full,
+            9 => Answer::Blocked,
+            10 => Answer::NotSound,
+            11 => Answer::WrongRing,
+            12 => Answer::NotHeld,
+            13 => Answer::NoRoom,
+            _ => no_answer(number),
+        }
     }
+}
+
+#[cold]
+fn no_answer(number: u8) -> ! {
+    panic!("the archive answered {number}, which is no answer")
 }
 
 #[cfg(test)]
 mod tests {
-    use super::{ANSWERS, Answer};
+    use super::Answer;
 
     #[test]
     fn each_answer_is_the_answer_of_its_number() {
-        for answer in ANSWERS {
-            assert_eq!(Answer::of(answer.number()), answer);
+        for number in 0..14 {
+            assert_eq!(Answer::of(number).number(), number);
         }
     }
 

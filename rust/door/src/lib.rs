@@ -1,34 +1,23 @@
-//! The door to the proved host: its five calls, with slices in and answers out.
+//! The door to the proved host: slices in, answers out, and a [`Desk`] that owns its memory.
 //!
 //! The functions are proved, compiled to an archive by `rt staticlib port` and linked by cargo.
 //! Each is total: it has an answer for every table, ring, pair of marks and entry, sound or not,
 //! and only [`Answer::Done`] changes anything.
 //!
-//! ```
-//! use pilaqsevi::{Answer, Marks, fresh, read, release, step};
-//!
-//! # if let Some(why) = pilaqsevi::absent() {
-//! #     println!("{why}");
-//! #     return;
-//! # }
-//! let mut table = [0; 64 + 80 * 10];
-//! assert_eq!(fresh(&mut table, 1_000_000, &[*b"ABCD"]), Answer::Done);
-//!
-//! let (mut ring, mut marks) = ([0; 4_096], Marks::default());
-//! let start_of_day = b"s\0\0\0\0\0\0\0\x01S";
-//! assert_eq!(step(&mut table, &mut ring, &mut marks, start_of_day), Answer::Done);
-//!
-//! // What is to be sent is a part of the ring; once it is sent, it is given up.
-//! let to_send = read(&ring, marks);
-//! assert_eq!(to_send, b"S\0\0\0\0\0\0\0\x01S");
-//! let sent = to_send.len();
-//! assert_eq!(release(ring.len(), &mut marks, sent), Answer::Done);
-//! ```
+//! A [`Desk`] is the usual way in. The calls below it take memory that is the caller's own, as
+//! `include/pilaqsevi.h` does for C.
 
 mod answer;
+mod desk;
+mod limits;
 mod raw;
 
 pub use answer::Answer;
+pub use desk::{Desk, Settings};
+pub use limits::{
+    HEADER_SIZE, HIGHEST_THRESHOLD, LONGEST_ENTRY, LONGEST_MESSAGE, LONGEST_RING, MOST_FIRMS,
+    MOST_RECORDS, RECORD_SIZE, SHORTEST_RING, table_size,
+};
 
 /// Where the held bytes of a ring begin and how many they are. A new ring has zeros.
 #[derive(Clone, Copy, Debug, Default, PartialEq, Eq)]
@@ -49,8 +38,9 @@ pub fn absent() -> Option<&'static str> {
 /// Makes the table fresh: day 0, nothing used, this threshold and these firms (1 to 8, the first
 /// is the default; each 1 to 4 capitals, then spaces).
 ///
-/// A table is 64 + 80n bytes with n from 1 to 800, or the answer is [`Answer::TableNotSound`]; then
+/// A table is 64 + 80n bytes with n from 1 to 800, or the answer is [`Answer::NotSound`]; then
 /// bad settings are [`Answer::BadField`].
+#[inline]
 pub fn fresh(table: &mut [u8], threshold: u32, firms: &[[u8; 4]]) -> Answer {
     let firms = firms.as_flattened();
     // SAFETY: both pointers come with the lengths of their slices, the borrows are apart and last
@@ -69,7 +59,8 @@ pub fn fresh(table: &mut [u8], threshold: u32, firms: &[[u8; 4]]) -> Answer {
 /// Offers one entry to the host that the table's bytes describe.
 ///
 /// A done entry changes the table and puts at most one message behind the ring's held bytes. A
-/// blocked one ([`Answer::NoRoom`]) may be offered again once bytes have been released.
+/// blocked one ([`Answer::Blocked`]) may be offered again once bytes have been released.
+#[inline]
 pub fn step(table: &mut [u8], ring: &mut [u8], marks: &mut Marks, entry: &[u8]) -> Answer {
     // SAFETY: each pointer comes with the length of its slice or is to one number, the borrows are
     // apart and last through the call, and the function keeps no pointer.
@@ -89,6 +80,7 @@ pub fn step(table: &mut [u8], ring: &mut [u8], marks: &mut Marks, entry: &[u8]) 
 
 /// The longest unbroken run of held bytes from the read place, a part of the ring itself. Over a
 /// wrong ring length or wrong marks, as over nothing held, it is empty.
+#[inline]
 pub fn read(ring: &[u8], marks: Marks) -> &[u8] {
     // SAFETY: the pointer comes with the length of its slice, which is only read.
     let len = unsafe { raw::pq_read(ring.as_ptr(), ring.len(), marks.at, marks.held) };
@@ -97,8 +89,9 @@ pub fn read(ring: &[u8], marks: Marks) -> &[u8] {
     from_place.get(..len).unwrap_or(&[])
 }
 
-/// Gives up k held bytes of a ring of this length: [`Answer::WrongMarks`] for a wrong length or
-/// wrong marks, [`Answer::ReleaseAboveHeld`] for more than is held.
+/// Gives up k held bytes of a ring of this length: [`Answer::WrongRing`] for a wrong length or
+/// wrong marks, [`Answer::NotHeld`] for more than is held.
+#[inline]
 pub fn release(ring_len: usize, marks: &mut Marks, k: usize) -> Answer {
     // SAFETY: the pointers are to two numbers that are borrowed through the call, apart from each
     // other, and the function keeps neither.
@@ -108,6 +101,7 @@ pub fn release(ring_len: usize, marks: &mut Marks, k: usize) -> Answer {
 /// Reads one of the sixteen messages and writes it back into `out`; bytes after it stay.
 ///
 /// U and M name two messages each, and `inbound` says which is meant.
+#[inline]
 pub fn echo(inbound: bool, message: &[u8], out: &mut [u8]) -> Answer {
     // SAFETY: both pointers come with the lengths of their slices, the borrows are apart and last
     // through the call, and the function keeps no pointer.
@@ -120,4 +114,24 @@ pub fn echo(inbound: bool, message: &[u8], out: &mut [u8]) -> Answer {
             out.len(),
         )
     })
+}
+
+/// The length of an entry of this kind, its byte of kind and its stamp included.
+#[inline]
+pub fn entry_length(kind: u8) -> Option<usize> {
+    // SAFETY: the function is given a number and nothing else.
+    some_length(unsafe { raw::pq_entry_length(kind) })
+}
+
+/// The length of the message of this type, its type included. U and M name two messages each, and
+/// `inbound` says which is meant.
+#[inline]
+pub fn message_length(inbound: bool, letter: u8) -> Option<usize> {
+    // SAFETY: the function is given two numbers and nothing else.
+    some_length(unsafe { raw::pq_message_length(u8::from(inbound), letter) })
+}
+
+/// The archive's 0 means that there is none.
+fn some_length(length: usize) -> Option<usize> {
+    (length > 0).then_some(length)
 }

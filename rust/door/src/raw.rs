@@ -6,12 +6,12 @@
 
 macro_rules! archive {
     ($($(#[$doc:meta])* fn $name:ident($($argument:ident: $kind:ty),*) -> $result:ty;)*) => {
-        #[cfg(linked)]
+        #[cfg(archive)]
         unsafe extern "C" {
             $($(#[$doc])* pub fn $name($($argument: $kind),*) -> $result;)*
         }
         $(
-            #[cfg(not(linked))]
+            #[cfg(not(archive))]
             #[allow(clippy::too_many_arguments, reason = "C lends each buffer as two arguments")]
             $(#[$doc])*
             pub unsafe fn $name($(_: $kind),*) -> $result {
@@ -45,10 +45,16 @@ archive! {
     fn pq_echo(
         inbound: u8, message: *const u8, len: usize, out: *mut u8, out_len: usize
     ) -> u8;
+
+    /// The length of an entry of this kind; 0 for no kind.
+    fn pq_entry_length(kind: u8) -> usize;
+
+    /// The length of the message of this type; 0 for no type.
+    fn pq_message_length(inbound: u8, letter: u8) -> usize;
 }
 
 /// Why no archive is linked, as the build found it.
-#[cfg(linked)]
+#[cfg(archive)]
 pub const ABSENT: Option<&str> = None;
-#[cfg(not(linked))]
+#[cfg(not(archive))]
 pub const ABSENT: Option<&str> = Some(env!("PILAQSEVI_ABSENT"));

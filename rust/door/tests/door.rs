@@ -1,59 +1,38 @@
 //! The door's own tests: what goes in and comes out is what the paper's worked numbers say.
 //!
-//! Without the archive there is nothing to call, and each test says so and stops.
+//! Without the archive there is nothing to call, and all of them are ignored.
 
-use pilaqsevi::{Answer, Marks, absent, echo, fresh, read, release, step};
+use pilaqsevi::{
+    Answer, Desk, HIGHEST_THRESHOLD, LONGEST_ENTRY, LONGEST_MESSAGE, LONGEST_RING, MOST_FIRMS,
+    MOST_RECORDS, Marks, SHORTEST_RING, Settings, echo, entry_length, fresh, message_length, read,
+    release, step, table_size,
+};
 
-/// Whether there is an archive to call; if not, says why.
-fn linked() -> bool {
-    absent().inspect(|why| println!("not run: {why}")).is_none()
-}
-
-/// A host with ten records under threshold 1,000,000 for the firm ABCD.
-struct Desk {
-    table: [u8; 64 + 80 * 10],
-    ring: [u8; 128],
-    marks: Marks,
-}
-
-impl Desk {
-    fn new() -> Desk {
-        let mut desk = Desk {
-            table: [0xaa; 64 + 80 * 10],
-            ring: [0; 128],
-            marks: Marks::default(),
-        };
-        assert_eq!(fresh(&mut desk.table, 1_000_000, &[*b"ABCD"]), Answer::Done);
-        desk
-    }
-
-    fn step(&mut self, entry: &[u8]) -> Answer {
-        step(&mut self.table, &mut self.ring, &mut self.marks, entry)
-    }
-
-    /// Takes all held bytes out.
-    fn empty(&mut self) -> Vec<u8> {
-        let mut out = Vec::new();
-        while self.marks.held > 0 {
-            let run = read(&self.ring, self.marks);
-            out.extend(run);
-            let k = run.len();
-            assert_eq!(release(self.ring.len(), &mut self.marks, k), Answer::Done);
-        }
-        out
-    }
-}
+const SETTINGS: Settings = Settings {
+    threshold: HIGHEST_THRESHOLD,
+    firms: &[*b"ABCD"],
+};
 
 const START: &[u8] = b"s\0\0\0\0\0\0\0\x01S";
 const ENTER: &[u8] = b"O\0\0\0\0\0\0\0\x02TOKEN00000001 B\0\0\x01\xf4IBM     \0\x01\x86\xa0\0\0\x03\xe7ABCDYPN\0\0\0\0N";
 const CANCEL: &[u8] = b"X\0\0\0\0\0\0\0\x03TOKEN00000001 \0\0\0\0";
 
-#[test]
-fn the_worked_tape_is_answered_as_worked() {
-    if !linked() {
-        return;
+/// Takes all held bytes out.
+fn empty(desk: &mut Desk) -> Vec<u8> {
+    let mut out = Vec::new();
+    while desk.held() > 0 {
+        let run = desk.read();
+        out.extend(run);
+        let k = run.len();
+        assert_eq!(desk.release(k), Answer::Done);
     }
-    let mut desk = Desk::new();
+    out
+}
+
+#[test]
+#[cfg_attr(not(archive), ignore = "no archive of the proved functions is linked")]
+fn the_worked_tape_is_answered_as_worked() {
+    let mut desk = Desk::new(SETTINGS, 10, 128).unwrap();
     let mut sent = Vec::new();
     let mut bytes = 0;
     for (entry, answer) in [
@@ -62,8 +41,8 @@ fn the_worked_tape_is_answered_as_worked() {
         (CANCEL, Answer::Done),
         (CANCEL, Answer::Ignored),
     ] {
-        assert_eq!(desk.step(entry), answer);
-        let message = desk.empty();
+        assert_eq!(desk.offer(entry), answer);
+        let message = empty(&mut desk);
         bytes += message.len();
         sent.extend(message.first());
     }
@@ -71,52 +50,97 @@ fn the_worked_tape_is_answered_as_worked() {
 }
 
 #[test]
+#[cfg_attr(not(archive), ignore = "no archive of the proved functions is linked")]
 fn a_blocked_entry_changes_nothing_and_can_be_offered_again() {
-    if !linked() {
-        return;
-    }
-    let mut desk = Desk::new();
-    assert_eq!(desk.step(START), Answer::Done);
-    desk.marks = Marks {
-        at: 100,
-        held: 128 - 65,
+    let mut table = [0xaa; table_size(10)];
+    let (mut ring, mut marks) = ([0; 128], Marks::default());
+    assert_eq!(fresh(&mut table, 1_000_000, &[*b"ABCD"]), Answer::Done);
+    assert_eq!(step(&mut table, &mut ring, &mut marks, START), Answer::Done);
+    let held = 128 - 65;
+    marks = Marks { at: 100, held };
+    let before = (table, ring);
+    let answer = step(&mut table, &mut ring, &mut marks, ENTER);
+    assert_eq!((answer, marks), (Answer::Blocked, Marks { at: 100, held }));
+    assert_eq!((table, ring), before);
+    assert_eq!(release(128, &mut marks, 1), Answer::Done);
+    assert_eq!(step(&mut table, &mut ring, &mut marks, ENTER), Answer::Done);
+    assert_eq!(marks, Marks { at: 101, held: 128 });
+}
+
+#[test]
+#[cfg_attr(not(archive), ignore = "no archive of the proved functions is linked")]
+fn a_desk_with_the_shortest_ring_blocks_and_goes_on() {
+    let mut desk = Desk::new(SETTINGS, 1, SHORTEST_RING).unwrap();
+    assert_eq!(desk.offer(START), Answer::Done);
+    assert_eq!(desk.offer(ENTER), Answer::Done);
+    let before = desk.clone();
+    assert_eq!(desk.offer(CANCEL), Answer::Blocked);
+    assert_eq!(desk, before);
+    assert_eq!(desk.release(77), Answer::NotHeld);
+    assert_eq!(desk, before);
+    assert_eq!(desk.release(24), Answer::Done);
+    assert_eq!(desk.offer(CANCEL), Answer::Done);
+    assert_eq!(desk.marks(), Marks { at: 24, held: 80 });
+    assert_eq!(desk.read(), &desk.ring()[24..]);
+    assert_eq!(empty(&mut desk).last(), Some(&b'U'));
+    assert_eq!(desk.table()[64], b'D');
+}
+
+#[test]
+#[cfg_attr(not(archive), ignore = "no archive of the proved functions is linked")]
+fn a_desk_says_what_is_wrong_with_it() {
+    let wrong = |settings, records, ring| Desk::new(settings, records, ring).err();
+    let no_firm = Settings {
+        firms: &[],
+        ..SETTINGS
     };
-    let before = (desk.table, desk.ring, desk.marks);
-    assert_eq!(desk.step(ENTER), Answer::NoRoom);
-    assert_eq!((desk.table, desk.ring, desk.marks), before);
-    assert_eq!(release(128, &mut desk.marks, 1), Answer::Done);
-    assert_eq!(desk.step(ENTER), Answer::Done);
-    assert_eq!(desk.marks, Marks { at: 101, held: 128 });
+    let too_many = Settings {
+        firms: &[*b"A   "; MOST_FIRMS + 1],
+        ..SETTINGS
+    };
+    let zero = Settings {
+        threshold: 0,
+        ..SETTINGS
+    };
+    assert_eq!(wrong(SETTINGS, 0, 80), Some(Answer::NotSound));
+    assert_eq!(wrong(zero, MOST_RECORDS + 1, 79), Some(Answer::NotSound));
+    assert_eq!(wrong(SETTINGS, usize::MAX, 80), Some(Answer::NotSound));
+    assert_eq!(wrong(no_firm, 1, 79), Some(Answer::BadField));
+    assert_eq!(wrong(too_many, 1, 80), Some(Answer::BadField));
+    assert_eq!(wrong(zero, 1, 80), Some(Answer::BadField));
+    assert_eq!(wrong(SETTINGS, 1, 79), Some(Answer::WrongRing));
+    let above = LONGEST_RING + 1;
+    assert_eq!(wrong(SETTINGS, 1, above), Some(Answer::WrongRing));
+    assert_eq!(wrong(SETTINGS, 1, usize::MAX), Some(Answer::WrongRing));
+    assert_eq!(wrong(SETTINGS, MOST_RECORDS, LONGEST_RING), None);
 }
 
 #[test]
+#[cfg_attr(not(archive), ignore = "no archive of the proved functions is linked")]
 fn wrong_marks_and_tables_are_refused() {
-    if !linked() {
-        return;
-    }
-    let mut desk = Desk::new();
-    desk.marks = Marks { at: 128, held: 1 };
-    assert_eq!(desk.step(START), Answer::WrongMarks);
-    assert_eq!(read(&desk.ring, desk.marks), b"");
-    assert_eq!(release(128, &mut desk.marks, 0), Answer::WrongMarks);
-    desk.marks = Marks { at: 127, held: 2 };
-    assert_eq!(read(&desk.ring, desk.marks).len(), 1);
-    assert_eq!(release(128, &mut desk.marks, 3), Answer::ReleaseAboveHeld);
-    assert_eq!(release(128, &mut desk.marks, 2), Answer::Done);
-    assert_eq!(desk.marks, Marks { at: 1, held: 0 });
-    desk.table[0] = 3;
-    assert_eq!(desk.step(START), Answer::TableNotSound);
-    assert_eq!(fresh(&mut [], 1, &[*b"A   "]), Answer::TableNotSound);
-    assert_eq!(fresh(&mut desk.table, 1, &[]), Answer::BadField);
-    assert_eq!(fresh(&mut desk.table, 1, &[*b"A   "; 9]), Answer::BadField);
-    assert_eq!(fresh(&mut desk.table, 1, &[*b"A   "; 8]), Answer::Done);
+    let (mut table, mut ring) = ([0; table_size(10)], [0; 128]);
+    assert_eq!(fresh(&mut table, 1, &[*b"A   "; 8]), Answer::Done);
+    let mut marks = Marks { at: 128, held: 1 };
+    let answer = step(&mut table, &mut ring, &mut marks, START);
+    assert_eq!(answer, Answer::WrongRing);
+    assert_eq!(read(&ring, marks), b"");
+    assert_eq!(release(128, &mut marks, 0), Answer::WrongRing);
+    marks = Marks { at: 127, held: 2 };
+    assert_eq!(read(&ring, marks).len(), 1);
+    assert_eq!(release(128, &mut marks, 3), Answer::NotHeld);
+    assert_eq!(release(128, &mut marks, 2), Answer::Done);
+    assert_eq!(marks, Marks { at: 1, held: 0 });
+    table[0] = 3;
+    let answer = step(&mut table, &mut ring, &mut marks, START);
+    assert_eq!(answer, Answer::NotSound);
+    assert_eq!(fresh(&mut [], 1, &[*b"A   "]), Answer::NotSound);
+    assert_eq!(fresh(&mut table, 1, &[]), Answer::BadField);
+    assert_eq!(fresh(&mut table, 1, &[*b"A   "; 9]), Answer::BadField);
 }
 
 #[test]
+#[cfg_attr(not(archive), ignore = "no archive of the proved functions is linked")]
 fn an_echo_writes_the_message_and_no_more() {
-    if !linked() {
-        return;
-    }
     // The same nineteen bytes without a stamp are an inbound Cancel.
     let message = [b"X".as_slice(), &CANCEL[9..]].concat();
     let mut out = [0x55; 24];
@@ -126,8 +150,30 @@ fn an_echo_writes_the_message_and_no_more() {
         (message.as_slice(), [0x55; 5].as_slice())
     );
     let mut short = [0x55; 18];
-    assert_eq!(echo(true, &message, &mut short), Answer::BufferTooShort);
+    assert_eq!(echo(true, &message, &mut short), Answer::NoRoom);
     assert_eq!(short, [0x55; 18]);
-    assert_eq!(echo(false, &message, &mut out), Answer::WrongKindOrLength);
-    assert_eq!(echo(true, b"", &mut []), Answer::WrongKindOrLength);
+    assert_eq!(echo(false, &message, &mut out), Answer::Malformed);
+    assert_eq!(echo(true, b"", &mut []), Answer::Malformed);
+}
+
+#[test]
+#[cfg_attr(not(archive), ignore = "no archive of the proved functions is linked")]
+fn lengths_are_the_papers() {
+    let entries = (0..=255).filter_map(|kind| Some((kind, entry_length(kind)?)));
+    let entries: Vec<(u8, usize)> = entries.collect();
+    let kinds: Vec<u8> = entries.iter().map(|(kind, _)| *kind).collect();
+    assert_eq!(kinds, b"MOUXceflpqs");
+    assert_eq!((entry_length(b'q'), entry_length(b'u')), (Some(36), None));
+    assert_eq!(
+        entries.iter().map(|(_, length)| *length).max(),
+        Some(LONGEST_ENTRY)
+    );
+    let sent = (0..=255).filter_map(|letter| message_length(false, letter));
+    let sent: Vec<usize> = sent.collect();
+    assert_eq!(
+        (sent.len(), sent.iter().max()),
+        (12, Some(&LONGEST_MESSAGE))
+    );
+    let come = (0..=255).filter_map(|letter| message_length(true, letter));
+    assert_eq!(come.collect::<Vec<_>>(), [20, 48, 47, 19]);
 }

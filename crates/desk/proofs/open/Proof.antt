@@ -1,7 +1,5 @@
 -- What `fresh` promises, at the desk's settings. Assumes nothing.
-use Rattle.octets.proofs.Needs.{unasked}
-use mathlib.Core.Path.{ap, _∙_}
-use borrow.Author.Needs.{needs}
+use Rattle.octets.proofs.Proving.{_∙_, ap, needs, unasked}
 use Rattle.table.specs.Fresh.{freshAnswer, freshTable}
 use Rattle.desk.proofs.open.Statement.{statement}
 use Rattle.desk.proofs.open.Tie as tie

@@ -1,4 +1,4 @@
--- The text and its zeros compute to the firms' bytes. Assumes nothing.
+-- The firms' places and their letters compute. Assumes nothing.
 use mathlib.Core.Path.{refl}
 use Rattle.octets.specs.Choice.{text}
 use Rattle.desk.specs.Desk.{deskSettings}

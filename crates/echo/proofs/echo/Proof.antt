@@ -1,6 +1,5 @@
 -- The caller's word chooses the list. Assumes nothing.
-use Rattle.octets.proofs.Needs.{unasked}
-use borrow.Author.Needs.{needs}
+use Rattle.echo.proofs.Laws.{needs, unasked}
 use Rattle.echo.proofs.echo.Statement.{statement}
 use Rattle.echo.proofs.echo.Tie as tie
 

@@ -1,7 +1,6 @@
 -- What is copied out is the part of the slice: once for every width. Assumes nothing.
-use mathlib.Core.Path.{refl, _∙_}
+use Rattle.octets.proofs.Proving.{_∙_, needs, refl}
 use Rattle.octets.proofs.Laws.{part-copied}
-use borrow.Author.Needs.{needs}
 use Rattle.octets.proofs.take_at.Statement.{statement}
 use Rattle.octets.proofs.take_at.Tie as tie
 

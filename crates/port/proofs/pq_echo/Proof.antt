@@ -1,7 +1,5 @@
 -- The number of the echo's answer, and the echo's buffer. Assumes nothing.
-use Rattle.octets.proofs.Needs.{unasked}
-use mathlib.Core.Path.{ap, _∙_}
-use borrow.Author.Needs.{needs}
+use Rattle.octets.proofs.Proving.{_∙_, ap, needs, unasked}
 use Rattle.answers.specs.Answer.{answerNumber}
 use Rattle.port.proofs.pq_echo.Statement.{statement}
 use Rattle.port.proofs.pq_echo.Tie as tie

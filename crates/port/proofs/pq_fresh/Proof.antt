@@ -1,7 +1,5 @@
 -- The number of the fresh call's answer, and its table, at the settings that were named. Assumes nothing.
-use Rattle.octets.proofs.Needs.{unasked}
-use mathlib.Core.Path.{ap, _∙_}
-use borrow.Author.Needs.{needs}
+use Rattle.octets.proofs.Proving.{_∙_, ap, needs, unasked}
 use Rattle.answers.specs.Answer.{answerNumber}
 use Rattle.table.specs.Fresh.{freshAnswer, freshTable}
 use Rattle.port.proofs.pq_fresh.Statement.{statement}

@@ -1,7 +1,5 @@
 -- The run's length, from what the run is. Assumes nothing.
-use Rattle.octets.proofs.Needs.{unasked}
-use mathlib.Core.Path.{ap}
-use lib.ListN.{length}
+use Rattle.octets.proofs.Proving.{ap, length, unasked}
 use Rattle.port.proofs.pq_read.Statement.{statement}
 use Rattle.port.proofs.pq_read.Tie as tie
 

@@ -1,6 +1,5 @@
 -- The number of the release's answer, and its marks, number by number. Assumes nothing.
-use Rattle.octets.proofs.Needs.{unasked}
-use mathlib.Core.Path.{ap, _∙_}
+use Rattle.octets.proofs.Proving.{_∙_, ap, unasked}
 use Rattle.answers.specs.Answer.{answerNumber}
 use Rattle.outbox.specs.declared.marks.Moved.{Moved}
 use Rattle.port.proofs.pq_release.Statement.{statement}

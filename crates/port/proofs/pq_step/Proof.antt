@@ -1,7 +1,5 @@
 -- The number of the step's answer, and what the step leaves. Assumes nothing.
-use Rattle.octets.proofs.Needs.{unasked}
-use mathlib.Core.Path.{ap, _∙_}
-use borrow.Author.Needs.{needs}
+use Rattle.octets.proofs.Proving.{_∙_, ap, needs, unasked}
 use Rattle.answers.specs.Answer.{answerNumber}
 use Rattle.port.proofs.pq_step.Statement.{statement}
 use Rattle.port.proofs.pq_step.Tie as tie

@@ -1,7 +1,5 @@
 -- The number of the put's answer, and the put's ring. Assumes nothing.
-use Rattle.octets.proofs.Needs.{unasked}
-use mathlib.Core.Path.{ap, _∙_}
-use borrow.Author.Needs.{needs}
+use Rattle.octets.proofs.Proving.{_∙_, ap, needs, unasked}
 use Rattle.answers.specs.Answer.{answerNumber}
 use Rattle.outbox.specs.declared.marks.Moved.{Moved}
 use Rattle.scales.proofs.pq_put.Statement.{statement}

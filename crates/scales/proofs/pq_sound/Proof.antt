@@ -1,7 +1,5 @@
 -- A test of what `sound` answers. Assumes nothing.
-use Rattle.octets.proofs.Needs.{unasked}
-use mathlib.Core.Path.{sym, ap, _∙_}
-use mathlib.Core.Bool.{Bool}
+use Rattle.octets.proofs.Proving.{Bool, _∙_, ap, sym, unasked}
 use Rattle.octets.specs.Choice.{pick}
 use Rattle.scales.proofs.pq_sound.Statement.{statement}
 use Rattle.scales.proofs.pq_sound.Tie as tie

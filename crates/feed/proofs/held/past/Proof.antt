@@ -1,6 +1,5 @@
 -- Each return is the choice that its tests led to. Assumes nothing.
-use borrow.Author.Tests.{le-leb, lt-leb}
-use borrow.Author.Needs.{needs}
+use Rattle.octets.proofs.Proving.{le-leb, lt-leb, needs}
 use Rattle.feed.specs.Feed.{past}
 use Rattle.feed.proofs.held.past.Statement.{statement}
 use Rattle.feed.proofs.held.past.Tie as tie

@@ -1,8 +1,5 @@
 -- Where the marks lie in the buffer, what slides to the front is what is held; otherwise nothing is. Assumes nothing.
-use Prim.Native.Nat.{_-_}
-use native.Mathlib.Omega.{arith}
-use borrow.Author.Tests.{le-leb, lt-leb}
-use borrow.Author.Needs.{needs}
+use Rattle.octets.proofs.Proving.{_-_, arith, le-leb, lt-leb, needs}
 use Rattle.feed.specs.Feed.{unread}
 use Rattle.feed.proofs.refill.keep.Statement.{statement}
 use Rattle.feed.proofs.refill.keep.Tie as tie

@@ -1,12 +1,13 @@
--- The input fills what is behind the first n bytes, and so leaves them. Assumes nothing.
-use borrow.Author.Needs.{needs}
-use Rattle.feed.proofs.Fronts.{still-held}
+-- What is kept in front is what was held, and the read leaves it there. Assumes nothing.
+use Rattle.octets.proofs.Proving.{needs, unasked}
+use Rattle.feed.proofs.Holds.{refills}
 use Rattle.feed.proofs.refill.refill.Statement.{statement}
 use Rattle.feed.proofs.refill.refill.Tie as tie
 
 returns : tie.Need-returns
-returns c = let s = c .before .before .before .before .before in
-    still-held (s .args .buffer .now) (c .before .before .read-full .last .1 .0) _ (s .args .n) (c .before .before .read-full .result) (s .pre) (c .before .before .read-full .ensures .0)
+returns c =
+    let k = c .before .before .before .before .before .before .keep in
+    refills _ _ _ _ (k .result) _ (k .ensures .0) (k .ensures .1) (c .before .before .fill-behind .ensures)
 
 pub refill-spec : {M : Type 1} → statement M
-refill-spec = tie.close (tie.spec (search needs) (search needs) (search needs) (λ c κs. search needs) (search needs) (search needs) returns)
+refill-spec = tie.close (tie.spec unasked (λ c κs. search needs) (λ c. search needs) returns)

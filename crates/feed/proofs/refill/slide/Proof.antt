@@ -1,9 +1,5 @@
 -- The invariant: what has gone is in front, and what is still to go is untouched. The measure is what is still to go. Assumes nothing.
-use Prim.Native.Nat.{_≤_, _-_}
-use Prim.Native.Nat.{ℕ}
-use mathlib.Core.Path.{_≡_, subst}
-use native.Mathlib.Omega.{arith}
-use lib.ListN.{take}
+use Rattle.octets.proofs.Proving.{_-_, _≡_, _≤_, arith, subst, take, ℕ}
 use Rattle.octets.specs.Bytes.{part}
 use Rattle.feed.proofs.Slides.{Slid, unmoved, slid-on}
 use Rattle.feed.proofs.refill.slide.Statement.{statement}

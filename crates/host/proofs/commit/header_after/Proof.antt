@@ -1,7 +1,6 @@
 -- Each field is what its own function says, or stays. Assumes nothing.
-use Rattle.octets.proofs.Needs.{unasked}
+use Rattle.octets.proofs.Proving.{needs, unasked}
 use Rattle.host.specs.Step.{headerAfter}
-use borrow.Author.Needs.{needs}
 use Rattle.host.proofs.commit.header_after.Statement.{statement}
 use Rattle.host.proofs.commit.header_after.Tie as tie
 

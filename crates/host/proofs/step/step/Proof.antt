@@ -1,39 +1,34 @@
--- Judged, and then offered. Assumes nothing.
-use Rattle.octets.proofs.Needs.{unasked}
-use mathlib.Core.Path.{sym, _∙_}
-use Rattle.host.specs.Step.{world}
-use Rattle.host.proofs.Offers.{leaves-as, leaves-unchanged, step-unsound, step-wrong, step-offers}
-use borrow.Author.Needs.{needs}
+-- Table and ring are judged, and then the entry is offered. Assumes nothing.
+use Rattle.octets.proofs.Proving.{answered, needs, unasked}
+use Rattle.host.specs.Step.{world, step}
+use Rattle.host.proofs.Offers.{stays}
 use Rattle.host.proofs.step.step.Statement.{statement}
 use Rattle.host.proofs.step.step.Tie as tie
 
 offer-requires : tie.Need-offer-requires
-offer-requires c κs =
-    (sym (c .before .before .before .before .before .sound .ensures) ∙ c .before .before .before .before .if1 .taken, sym (c .before .before .before .ring-good .ensures) ∙ c .before .before .if2 .taken)
+offer-requires c κs = (answered (c .before .before .before .before .before .sound .ensures) (c .before .before .before .before .if1 .taken), answered (c .before .before .before .ring-good .ensures) (c .before .before .if2 .taken))
 
 returns : tie.Need-returns
+unfolding step
 returns c =
-    let start = c .before .before .before .before .before .before .before .before .before .before .before .before .before .before .before in
-    let w = world (start .args .table .now) (start .args .ring .now) (start .args .marks) in
-    let good = sym (c .before .before .before .before .before .before .before .before .before .before .sound .ensures) ∙ c .before .before .before .before .before .before .before .before .before .if1 .taken in
-    let right = sym (c .before .before .before .before .before .before .before .before .ring-good .ensures) ∙ c .before .before .before .before .before .before .before .if2 .taken in
-    leaves-as (sym (step-offers w _ good right)) (c .before .before .before .before .offer .ensures)
+    let p = c .before .before .before .before .before .before .before in
+    rw (answered (p .before .before .before .sound .ensures) (p .before .before .if1 .taken), answered (p .before .ring-good .ensures) (p .if2 .taken))
+    (c .before .before .before .before .offer .ensures)
 
 returns-2 : tie.Need-returns-2
+unfolding step
 returns-2 c =
     let start = c .before .before .before .before .before .before .before .before in
-    let w = world (start .args .table .now) (start .args .ring .now) (start .args .marks) in
-    let good = sym (c .before .before .before .sound .ensures) ∙ c .before .before .if1 .taken in
-    leaves-unchanged w _ _ (step-wrong w _ good (sym (c .before .ring-good .ensures) ∙ c .if2 .left))
+    rw (answered (c .before .before .before .sound .ensures) (c .before .before .if1 .taken), answered (c .before .ring-good .ensures) (c .if2 .left))
+    (stays (world (start .args .table .now) (start .args .ring .now) (start .args .marks)) _)
 
 returns-3 : tie.Need-returns-3
+unfolding step
 returns-3 c =
     let start = c .before .before .before .before .before .before in
-    let w = world (start .args .table .now) (start .args .ring .now) (start .args .marks) in
-    leaves-unchanged w _ _ (step-unsound w _ (sym (c .before .sound .ensures) ∙ c .if1 .left))
+    rw (answered (c .before .sound .ensures) (c .if1 .left)) (stays (world (start .args .table .now) (start .args .ring .now) (start .args .marks)) _)
 
 pub step-spec : {M : Type 1} → statement M
 step-spec =
-    tie.close
-    (tie.spec unasked unasked offer-requires (λ c. search needs) (λ c. search needs) returns (λ c. search needs) returns-2
+    tie.close (tie.spec unasked unasked offer-requires (λ c. search needs) (λ c. search needs) returns (λ c. search needs) returns-2
     (λ c. search needs) returns-3)

@@ -1,23 +1,10 @@
--- The fields come from legal bytes or from zeros, either as long as the message. Assumes nothing.
-use Rattle.octets.proofs.Needs.{unasked}
-use borrow.Author.Needs.{needs}
-use Rattle.wire.specs.Messages.{modifyOrder}
-use Rattle.wire.proofs.RoundTrips.{kept-is, kept-long}
-use Rattle.inbound.specs.Inbound.{readModifyOrder}
+-- The answer is the judge's, and the fields are those of what it let through. Assumes nothing.
+use Rattle.inbound.proofs.Codec.{unasked, needs}
 use Rattle.inbound.proofs.modify_order.read_modify_order.Statement.{statement}
 use Rattle.inbound.proofs.modify_order.read_modify_order.Tie as tie
 
-parse-modify-order-requires : tie.Need-parse-modify-order-requires
-parse-modify-order-requires c κs =
-    let j = c .before .before in
-    kept-long modifyOrder (j .before .before .args .s .now) (j .judge .ensures) (c .taken .ensures)
-
 returns : tie.Need-returns
-unfolding readModifyOrder
-returns c =
-    let j = c .before .before .before in
-    let bytes = kept-is modifyOrder (j .before .before .args .s .now) (j .judge .ensures) (c .before .taken .ensures) in
-    cc
+returns c = rw (c .parse-modify-order .ensures, c .before .legal-or-zeros .ensures .0, c .before .before .before .judge .ensures)
 
 pub read-modify-order-spec : {M : Type 1} → statement M
-read-modify-order-spec = tie.close (tie.spec (search needs) (search needs) unasked parse-modify-order-requires returns)
+read-modify-order-spec = tie.close (tie.spec unasked (search needs) (λ c κs. search needs) (search needs) returns)

@@ -1,6 +1,5 @@
 -- The digits of the hour, the minute, the second and the nanoseconds in their places. Assumes nothing.
-use Rattle.octets.proofs.Needs.{unasked}
-use borrow.Author.Needs.{needs}
+use Rattle.octets.proofs.Proving.{needs, unasked}
 use Rattle.octets.specs.Bytes.{joined}
 use Rattle.listing.specs.Clock.{clock}
 use Rattle.listing.proofs.clock.clock.Statement.{statement}

@@ -1,8 +1,5 @@
 -- A digit below ten is its letter. Assumes nothing.
-use Prim.Native.Nat.{_%_, _<_}
-use native.Mathlib.Omega.{arith}
-use borrow.Author.Tests.{lt-ltb}
-use borrow.Author.Needs.{needs}
+use Rattle.octets.proofs.Proving.{_%_, _<_, arith, lt-ltb, needs}
 use Rattle.listing.proofs.clock.digit.Statement.{statement}
 use Rattle.listing.proofs.clock.digit.Tie as tie
 

@@ -1,6 +1,5 @@
 -- Each return is the choice that its test led to. Assumes nothing.
-use borrow.Author.Tests.{eq-eqb, ne-eqb}
-use borrow.Author.Needs.{needs}
+use Rattle.octets.proofs.Proving.{eq-eqb, ne-eqb, needs}
 use Rattle.listing.specs.Lines.{typeShown}
 use Rattle.listing.proofs.lines.type_shown.Statement.{statement}
 use Rattle.listing.proofs.lines.type_shown.Tie as tie

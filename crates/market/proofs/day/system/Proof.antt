@@ -6,15 +6,15 @@ use Rattle.market.proofs.day.system.Tie as tie
 
 returns : tie.Need-returns
 unfolding systemRule
-returns c = simp (c .beginning .ensures, c .before .if1 .taken)
+returns c = rw (c .before .if1 .taken) (c .beginning .ensures)
 
 returns-2 : tie.Need-returns-2
 unfolding systemRule
-returns-2 c = simp (c .beginning2 .ensures, c .before .before .before .before .if1 .left, c .before .if2 .taken)
+returns-2 c = rw (c .before .before .before .before .if1 .left, c .before .if2 .taken) (c .beginning2 .ensures)
 
 returns-3 : tie.Need-returns-3
 unfolding systemRule
-returns-3 c = simp (c .refused .ensures, c .before .before .before .before .if1 .left, c .before .if2 .left)
+returns-3 c = rw (c .before .before .before .before .if1 .left, c .before .if2 .left) (c .refused .ensures)
 
 pub system-spec : {M : Type 1} → statement M
 system-spec = tie.close (tie.spec unasked returns unasked returns-2 unasked returns-3)

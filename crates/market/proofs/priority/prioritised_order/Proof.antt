@@ -1,4 +1,4 @@
--- The details are field by field the definition's. Assumes nothing.
+-- Each call is what it promises. Assumes nothing.
 use Rattle.octets.proofs.Needs.{unasked}
 use Rattle.market.specs.Priority.{prioritisedOrder}
 use Rattle.market.proofs.priority.prioritised_order.Statement.{statement}
@@ -6,7 +6,7 @@ use Rattle.market.proofs.priority.prioritised_order.Tie as tie
 
 returns : tie.Need-returns
 unfolding prioritisedOrder
-returns c = simp (c .with-details .ensures)
+returns c = cc
 
 pub prioritised-order-spec : {M : Type 1} → statement M
 prioritised-order-spec = tie.close (tie.spec unasked returns)

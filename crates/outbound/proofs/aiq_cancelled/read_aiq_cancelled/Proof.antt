@@ -1,23 +1,17 @@
--- The fields come from legal bytes or from zeros, either as long as the message. Assumes nothing.
-use Rattle.octets.proofs.Needs.{unasked}
-use borrow.Author.Needs.{needs}
-use Rattle.wire.specs.Messages.{aiqCancelled}
-use Rattle.wire.proofs.RoundTrips.{kept-is, kept-long}
-use Rattle.outbound.specs.Outbound.{readAiqCancelled}
+-- The answer is the judge's, and the fields are those of what it let through. Assumes nothing.
+use Rattle.outbound.proofs.Codec.{unasked, needs, aiqCancelledOf}
 use Rattle.outbound.proofs.aiq_cancelled.read_aiq_cancelled.Statement.{statement}
 use Rattle.outbound.proofs.aiq_cancelled.read_aiq_cancelled.Tie as tie
 
-parse-aiq-cancelled-requires : tie.Need-parse-aiq-cancelled-requires
-parse-aiq-cancelled-requires c κs =
-    let j = c .before .before in
-    kept-long aiqCancelled (j .before .before .args .s .now) (j .judge .ensures) (c .taken .ensures)
-
 returns : tie.Need-returns
-unfolding readAiqCancelled
+unfolding aiqCancelledOf
 returns c =
-    let j = c .before .before .before in
-    let bytes = kept-is aiqCancelled (j .before .before .args .s .now) (j .judge .ensures) (c .before .taken .ensures) in
-    cc
+    let legal = c .before .before .before .before .before .before .before in
+    rw (c .byte-at2 .ensures, c .before .be323 .ensures, c .before .before .be322 .ensures, c .before .before .before .byte-at .ensures)
+    (rw (c .before .before .before .before .be32 .ensures, c .before .before .before .before .before .bytes14-at .ensures)
+    (rw (c .before .before .before .before .before .before .be64 .ensures, legal .legal-or-zeros .ensures .0)
+    (rw (legal .before .before .judge .ensures))))
 
 pub read-aiq-cancelled-spec : {M : Type 1} → statement M
-read-aiq-cancelled-spec = tie.close (tie.spec (search needs) (search needs) unasked parse-aiq-cancelled-requires returns)
+read-aiq-cancelled-spec = tie.close (tie.spec unasked (search needs) (λ c κs. search needs) (search needs) (search needs) (search needs)
+    (search needs) (search needs) (search needs) (search needs) returns)

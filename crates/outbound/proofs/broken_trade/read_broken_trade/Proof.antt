@@ -1,23 +1,14 @@
--- The fields come from legal bytes or from zeros, either as long as the message. Assumes nothing.
-use Rattle.octets.proofs.Needs.{unasked}
-use borrow.Author.Needs.{needs}
-use Rattle.wire.specs.Messages.{brokenTrade}
-use Rattle.wire.proofs.RoundTrips.{kept-is, kept-long}
-use Rattle.outbound.specs.Outbound.{readBrokenTrade}
+-- The answer is the judge's, and the fields are those of what it let through. Assumes nothing.
+use Rattle.outbound.proofs.Codec.{unasked, needs, brokenTradeOf}
 use Rattle.outbound.proofs.broken_trade.read_broken_trade.Statement.{statement}
 use Rattle.outbound.proofs.broken_trade.read_broken_trade.Tie as tie
 
-parse-broken-trade-requires : tie.Need-parse-broken-trade-requires
-parse-broken-trade-requires c κs =
-    let j = c .before .before in
-    kept-long brokenTrade (j .before .before .args .s .now) (j .judge .ensures) (c .taken .ensures)
-
 returns : tie.Need-returns
-unfolding readBrokenTrade
-returns c =
-    let j = c .before .before .before in
-    let bytes = kept-is brokenTrade (j .before .before .args .s .now) (j .judge .ensures) (c .before .taken .ensures) in
-    cc
+unfolding brokenTradeOf
+returns c = rw (c .byte-at .ensures, c .before .be642 .ensures, c .before .before .bytes14-at .ensures)
+    (rw (c .before .before .before .be64 .ensures, c .before .before .before .before .legal-or-zeros .ensures .0)
+    (rw (c .before .before .before .before .before .before .judge .ensures)))
 
 pub read-broken-trade-spec : {M : Type 1} → statement M
-read-broken-trade-spec = tie.close (tie.spec (search needs) (search needs) unasked parse-broken-trade-requires returns)
+read-broken-trade-spec = tie.close (tie.spec unasked (search needs) (λ c κs. search needs) (search needs) (search needs) (search needs)
+    (search needs) returns)

@@ -1,31 +1,11 @@
--- A run of puts, a field each, in the layout's order. Assumes nothing.
-use mathlib.Core.Path.{refl}
-use lib.Dec.{lit<, lit≤}
-use Rattle.wire.specs.Layout.{wellLaid, unbroken}
-use Rattle.wire.specs.Messages.{cancelReject}
-use Rattle.wire.proofs.Runs.{_then_, ends, ran}
-use Rattle.outbound.specs.Outbound.{cancelRejectBytes, cancelRejectValues}
+-- The fields are put one by one, in the layout's order. Assumes nothing.
+use Rattle.outbound.proofs.Codec.{unasked, refl, _then_, ends, spelled, cancelRejectBytes}
 use Rattle.outbound.proofs.cancel_reject.spell_cancel_reject.Statement.{statement}
 use Rattle.outbound.proofs.cancel_reject.spell_cancel_reject.Tie as tie
 
-put-letter-requires : tie.Need-put-letter-requires
-put-letter-requires c κs = lit< tt
-
-put-long-requires : tie.Need-put-long-requires
-put-long-requires c κs = lit≤ tt
-
-put-token-requires : tie.Need-put-token-requires
-put-token-requires c κs = lit≤ tt
-
 returns : tie.Need-returns
-unfolding cancelRejectBytes wellLaid unbroken
-returns c =
-    let token = c in
-    let stamp = token .before .before in
-    let letter = stamp .before .before in
-    let m = letter .before .before .before .args .m in
-    ran cancelReject refl (lit< tt) (lit≤ tt) (cancelRejectValues m) _ _ (letter .put-letter .ensures)
-    (stamp .put-long .ensures then token .put-token .ensures then ends)
+unfolding cancelRejectBytes
+returns c = spelled 13 tt refl (refl then c .headed .ensures then ends)
 
 pub spell-cancel-reject-spec : {M : Type 1} → statement M
-spell-cancel-reject-spec = tie.close (tie.spec put-letter-requires put-long-requires put-token-requires returns)
+spell-cancel-reject-spec = tie.close (tie.spec unasked returns)

@@ -1,23 +1,16 @@
--- The fields come from legal bytes or from zeros, either as long as the message. Assumes nothing.
-use Rattle.octets.proofs.Needs.{unasked}
-use borrow.Author.Needs.{needs}
-use Rattle.wire.specs.Messages.{executed}
-use Rattle.wire.proofs.RoundTrips.{kept-is, kept-long}
-use Rattle.outbound.specs.Outbound.{readExecuted}
+-- The answer is the judge's, and the fields are those of what it let through. Assumes nothing.
+use Rattle.outbound.proofs.Codec.{unasked, needs, executedOf}
 use Rattle.outbound.proofs.executed.read_executed.Statement.{statement}
 use Rattle.outbound.proofs.executed.read_executed.Tie as tie
 
-parse-executed-requires : tie.Need-parse-executed-requires
-parse-executed-requires c κs =
-    let j = c .before .before in
-    kept-long executed (j .before .before .args .s .now) (j .judge .ensures) (c .taken .ensures)
-
 returns : tie.Need-returns
-unfolding readExecuted
-returns c =
-    let j = c .before .before .before in
-    let bytes = kept-is executed (j .before .before .args .s .now) (j .judge .ensures) (c .before .taken .ensures) in
-    cc
+unfolding executedOf
+returns c = rw (c .be642 .ensures, c .before .byte-at .ensures, c .before .before .be322 .ensures)
+    (rw (c .before .before .before .be32 .ensures, c .before .before .before .before .bytes14-at .ensures)
+    (rw (c .before .before .before .before .before .be64 .ensures)
+    (rw (c .before .before .before .before .before .before .legal-or-zeros .ensures .0)
+    (rw (c .before .before .before .before .before .before .before .before .judge .ensures)))))
 
 pub read-executed-spec : {M : Type 1} → statement M
-read-executed-spec = tie.close (tie.spec (search needs) (search needs) unasked parse-executed-requires returns)
+read-executed-spec = tie.close (tie.spec unasked (search needs) (λ c κs. search needs) (search needs) (search needs) (search needs)
+    (search needs) (search needs) (search needs) returns)

@@ -1,23 +1,14 @@
--- The fields come from legal bytes or from zeros, either as long as the message. Assumes nothing.
-use Rattle.octets.proofs.Needs.{unasked}
-use borrow.Author.Needs.{needs}
-use Rattle.wire.specs.Messages.{modified}
-use Rattle.wire.proofs.RoundTrips.{kept-is, kept-long}
-use Rattle.outbound.specs.Outbound.{readModified}
+-- The answer is the judge's, and the fields are those of what it let through. Assumes nothing.
+use Rattle.outbound.proofs.Codec.{unasked, needs, modifiedOf}
 use Rattle.outbound.proofs.modified.read_modified.Statement.{statement}
 use Rattle.outbound.proofs.modified.read_modified.Tie as tie
 
-parse-modified-requires : tie.Need-parse-modified-requires
-parse-modified-requires c κs =
-    let j = c .before .before in
-    kept-long modified (j .before .before .args .s .now) (j .judge .ensures) (c .taken .ensures)
-
 returns : tie.Need-returns
-unfolding readModified
-returns c =
-    let j = c .before .before .before in
-    let bytes = kept-is modified (j .before .before .args .s .now) (j .judge .ensures) (c .before .taken .ensures) in
-    cc
+unfolding modifiedOf
+returns c = rw (c .be32 .ensures, c .before .byte-at .ensures, c .before .before .bytes14-at .ensures)
+    (rw (c .before .before .before .be64 .ensures, c .before .before .before .before .legal-or-zeros .ensures .0)
+    (rw (c .before .before .before .before .before .before .judge .ensures)))
 
 pub read-modified-spec : {M : Type 1} → statement M
-read-modified-spec = tie.close (tie.spec (search needs) (search needs) unasked parse-modified-requires returns)
+read-modified-spec = tie.close (tie.spec unasked (search needs) (λ c κs. search needs) (search needs) (search needs) (search needs)
+    (search needs) returns)

@@ -1,41 +1,12 @@
--- A run of puts, a field each, in the layout's order. Assumes nothing.
-use mathlib.Core.Path.{refl}
-use lib.Dec.{lit<, lit≤}
-use Rattle.wire.specs.Layout.{wellLaid, unbroken}
-use Rattle.wire.specs.Messages.{modified}
-use Rattle.wire.proofs.Runs.{_then_, ends, ran}
-use Rattle.outbound.specs.Outbound.{modifiedBytes, modifiedValues}
+-- The fields are put one by one, in the layout's order. Assumes nothing.
+use Rattle.outbound.proofs.Codec.{unasked, needs, refl, _then_, ends, spelled, modifiedBytes}
 use Rattle.outbound.proofs.modified.spell_modified.Statement.{statement}
 use Rattle.outbound.proofs.modified.spell_modified.Tie as tie
 
-put-letter-requires : tie.Need-put-letter-requires
-put-letter-requires c κs = lit< tt
-
-put-long-requires : tie.Need-put-long-requires
-put-long-requires c κs = lit≤ tt
-
-put-token-requires : tie.Need-put-token-requires
-put-token-requires c κs = lit≤ tt
-
-put-letter-requires-2 : tie.Need-put-letter-requires-2
-put-letter-requires-2 c κs = lit< tt
-
-put-integer-requires : tie.Need-put-integer-requires
-put-integer-requires c κs = lit≤ tt
-
 returns : tie.Need-returns
-unfolding modifiedBytes wellLaid unbroken
-returns c =
-    let shares = c in
-    let side = shares .before .before in
-    let token = side .before .before in
-    let stamp = token .before .before in
-    let letter = stamp .before .before in
-    let m = letter .before .before .before .args .m in
-    ran modified refl (lit< tt) (lit≤ tt) (modifiedValues m) _ _ (letter .put-letter .ensures)
-    (stamp .put-long .ensures then token .put-token .ensures then side .put-letter2 .ensures
-    then shares .put-integer .ensures then ends)
+unfolding modifiedBytes
+returns c = spelled 15 tt refl (refl then c .before .before .before .before .headed .ensures then c .before .before .put-letter .ensures
+    then c .put-integer .ensures then ends)
 
 pub spell-modified-spec : {M : Type 1} → statement M
-spell-modified-spec =
-    tie.close (tie.spec put-letter-requires put-long-requires put-token-requires put-letter-requires-2 put-integer-requires returns)
+spell-modified-spec = tie.close (tie.spec unasked (search needs) (search needs) returns)

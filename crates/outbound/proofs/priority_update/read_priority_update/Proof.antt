@@ -1,23 +1,15 @@
--- The fields come from legal bytes or from zeros, either as long as the message. Assumes nothing.
-use Rattle.octets.proofs.Needs.{unasked}
-use borrow.Author.Needs.{needs}
-use Rattle.wire.specs.Messages.{priorityUpdate}
-use Rattle.wire.proofs.RoundTrips.{kept-is, kept-long}
-use Rattle.outbound.specs.Outbound.{readPriorityUpdate}
+-- The answer is the judge's, and the fields are those of what it let through. Assumes nothing.
+use Rattle.outbound.proofs.Codec.{unasked, needs, priorityUpdateOf}
 use Rattle.outbound.proofs.priority_update.read_priority_update.Statement.{statement}
 use Rattle.outbound.proofs.priority_update.read_priority_update.Tie as tie
 
-parse-priority-update-requires : tie.Need-parse-priority-update-requires
-parse-priority-update-requires c κs =
-    let j = c .before .before in
-    kept-long priorityUpdate (j .before .before .args .s .now) (j .judge .ensures) (c .taken .ensures)
-
 returns : tie.Need-returns
-unfolding readPriorityUpdate
-returns c =
-    let j = c .before .before .before in
-    let bytes = kept-is priorityUpdate (j .before .before .args .s .now) (j .judge .ensures) (c .before .taken .ensures) in
-    cc
+unfolding priorityUpdateOf
+returns c = rw (c .be642 .ensures, c .before .byte-at .ensures, c .before .before .be32 .ensures)
+    (rw (c .before .before .before .bytes14-at .ensures, c .before .before .before .before .be64 .ensures)
+    (rw (c .before .before .before .before .before .legal-or-zeros .ensures .0)
+    (rw (c .before .before .before .before .before .before .before .judge .ensures))))
 
 pub read-priority-update-spec : {M : Type 1} → statement M
-read-priority-update-spec = tie.close (tie.spec (search needs) (search needs) unasked parse-priority-update-requires returns)
+read-priority-update-spec = tie.close (tie.spec unasked (search needs) (λ c κs. search needs) (search needs) (search needs) (search needs)
+    (search needs) (search needs) returns)

@@ -1,47 +1,13 @@
--- A run of puts, a field each, in the layout's order. Assumes nothing.
-use mathlib.Core.Path.{refl}
-use lib.Dec.{lit<, lit≤}
-use Rattle.wire.specs.Layout.{wellLaid, unbroken}
-use Rattle.wire.specs.Messages.{priorityUpdate}
-use Rattle.wire.proofs.Runs.{_then_, ends, ran}
-use Rattle.outbound.specs.Outbound.{priorityUpdateBytes, priorityUpdateValues}
+-- The fields are put one by one, in the layout's order. Assumes nothing.
+use Rattle.outbound.proofs.Codec.{unasked, needs, refl, _then_, ends, spelled, priorityUpdateBytes}
 use Rattle.outbound.proofs.priority_update.spell_priority_update.Statement.{statement}
 use Rattle.outbound.proofs.priority_update.spell_priority_update.Tie as tie
 
-put-letter-requires : tie.Need-put-letter-requires
-put-letter-requires c κs = lit< tt
-
-put-long-requires : tie.Need-put-long-requires
-put-long-requires c κs = lit≤ tt
-
-put-token-requires : tie.Need-put-token-requires
-put-token-requires c κs = lit≤ tt
-
-put-integer-requires : tie.Need-put-integer-requires
-put-integer-requires c κs = lit≤ tt
-
-put-letter-requires-2 : tie.Need-put-letter-requires-2
-put-letter-requires-2 c κs = lit< tt
-
-put-long-requires-2 : tie.Need-put-long-requires-2
-put-long-requires-2 c κs = lit≤ tt
-
 returns : tie.Need-returns
-unfolding priorityUpdateBytes wellLaid unbroken
-returns c =
-    let reference = c in
-    let display = reference .before .before in
-    let price = display .before .before in
-    let token = price .before .before in
-    let stamp = token .before .before in
-    let letter = stamp .before .before in
-    let m = letter .before .before .before .args .m in
-    ran priorityUpdate refl (lit< tt) (lit≤ tt) (priorityUpdateValues m) _ _ (letter .put-letter .ensures)
-    (stamp .put-long .ensures then token .put-token .ensures then price .put-integer .ensures
-    then display .put-letter2 .ensures then reference .put-long2 .ensures then ends)
+unfolding priorityUpdateBytes
+returns c = spelled 14 tt refl (refl then c .before .before .before .before .before .before .headed .ensures
+    then c .before .before .before .before .put-integer .ensures then c .before .before .put-letter .ensures then c .put-long .ensures
+    then ends)
 
 pub spell-priority-update-spec : {M : Type 1} → statement M
-spell-priority-update-spec =
-    tie.close
-    (tie.spec put-letter-requires put-long-requires put-token-requires put-integer-requires put-letter-requires-2 put-long-requires-2
-    returns)
+spell-priority-update-spec = tie.close (tie.spec unasked (search needs) (search needs) (search needs) returns)

@@ -1,23 +1,12 @@
--- The fields come from legal bytes or from zeros, either as long as the message. Assumes nothing.
-use Rattle.octets.proofs.Needs.{unasked}
-use borrow.Author.Needs.{needs}
-use Rattle.wire.specs.Messages.{rejected}
-use Rattle.wire.proofs.RoundTrips.{kept-is, kept-long}
-use Rattle.outbound.specs.Outbound.{readRejected}
+-- The answer is the judge's, and the fields are those of what it let through. Assumes nothing.
+use Rattle.outbound.proofs.Codec.{unasked, needs, rejectedOf}
 use Rattle.outbound.proofs.rejected.read_rejected.Statement.{statement}
 use Rattle.outbound.proofs.rejected.read_rejected.Tie as tie
 
-parse-rejected-requires : tie.Need-parse-rejected-requires
-parse-rejected-requires c κs =
-    let j = c .before .before in
-    kept-long rejected (j .before .before .args .s .now) (j .judge .ensures) (c .taken .ensures)
-
 returns : tie.Need-returns
-unfolding readRejected
-returns c =
-    let j = c .before .before .before in
-    let bytes = kept-is rejected (j .before .before .args .s .now) (j .judge .ensures) (c .before .taken .ensures) in
-    cc
+unfolding rejectedOf
+returns c = rw (c .byte-at .ensures, c .before .bytes14-at .ensures, c .before .before .be64 .ensures)
+    (rw (c .before .before .before .legal-or-zeros .ensures .0, c .before .before .before .before .before .judge .ensures))
 
 pub read-rejected-spec : {M : Type 1} → statement M
-read-rejected-spec = tie.close (tie.spec (search needs) (search needs) unasked parse-rejected-requires returns)
+read-rejected-spec = tie.close (tie.spec unasked (search needs) (λ c κs. search needs) (search needs) (search needs) (search needs) returns)

@@ -1,35 +1,11 @@
--- A run of puts, a field each, in the layout's order. Assumes nothing.
-use mathlib.Core.Path.{refl}
-use lib.Dec.{lit<, lit≤}
-use Rattle.wire.specs.Layout.{wellLaid, unbroken}
-use Rattle.wire.specs.Messages.{rejected}
-use Rattle.wire.proofs.Runs.{_then_, ends, ran}
-use Rattle.outbound.specs.Outbound.{rejectedBytes, rejectedValues}
+-- The fields are put one by one, in the layout's order. Assumes nothing.
+use Rattle.outbound.proofs.Codec.{unasked, needs, refl, _then_, ends, spelled, rejectedBytes}
 use Rattle.outbound.proofs.rejected.spell_rejected.Statement.{statement}
 use Rattle.outbound.proofs.rejected.spell_rejected.Tie as tie
 
-put-letter-requires : tie.Need-put-letter-requires
-put-letter-requires c κs = lit< tt
-
-put-long-requires : tie.Need-put-long-requires
-put-long-requires c κs = lit≤ tt
-
-put-token-requires : tie.Need-put-token-requires
-put-token-requires c κs = lit≤ tt
-
-put-letter-requires-2 : tie.Need-put-letter-requires-2
-put-letter-requires-2 c κs = lit< tt
-
 returns : tie.Need-returns
-unfolding rejectedBytes wellLaid unbroken
-returns c =
-    let reason = c in
-    let token = reason .before .before in
-    let stamp = token .before .before in
-    let letter = stamp .before .before in
-    let m = letter .before .before .before .args .m in
-    ran rejected refl (lit< tt) (lit≤ tt) (rejectedValues m) _ _ (letter .put-letter .ensures)
-    (stamp .put-long .ensures then token .put-token .ensures then reason .put-letter2 .ensures then ends)
+unfolding rejectedBytes
+returns c = spelled 11 tt refl (refl then c .before .before .headed .ensures then c .put-letter .ensures then ends)
 
 pub spell-rejected-spec : {M : Type 1} → statement M
-spell-rejected-spec = tie.close (tie.spec put-letter-requires put-long-requires put-token-requires put-letter-requires-2 returns)
+spell-rejected-spec = tie.close (tie.spec unasked (search needs) returns)

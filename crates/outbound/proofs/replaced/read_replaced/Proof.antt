@@ -1,23 +1,15 @@
--- The fields come from legal bytes or from zeros, either as long as the message. Assumes nothing.
-use Rattle.octets.proofs.Needs.{unasked}
-use borrow.Author.Needs.{needs}
-use Rattle.wire.specs.Messages.{replaced}
-use Rattle.wire.proofs.RoundTrips.{kept-is, kept-long}
-use Rattle.outbound.specs.Outbound.{readReplaced}
+-- The answer is the judge's, and the fields are those of what it let through. Assumes nothing.
+use Rattle.outbound.proofs.Codec.{unasked, needs, replacedOf, statedOf}
 use Rattle.outbound.proofs.replaced.read_replaced.Statement.{statement}
 use Rattle.outbound.proofs.replaced.read_replaced.Tie as tie
 
-parse-replaced-requires : tie.Need-parse-replaced-requires
-parse-replaced-requires c κs =
-    let j = c .before .before in
-    kept-long replaced (j .before .before .args .s .now) (j .judge .ensures) (c .taken .ensures)
-
 returns : tie.Need-returns
-unfolding readReplaced
-returns c =
-    let j = c .before .before .before in
-    let bytes = kept-is replaced (j .before .before .args .s .now) (j .judge .ensures) (c .before .taken .ensures) in
-    cc
+unfolding replacedOf statedOf
+returns c = rw (c .byte-at .ensures, c .before .bytes14-at2 .ensures, c .before .before .parse-stated .ensures)
+    (rw (c .before .before .before .bytes14-at .ensures, c .before .before .before .before .be64 .ensures)
+    (rw (c .before .before .before .before .before .legal-or-zeros .ensures .0)
+    (rw (c .before .before .before .before .before .before .before .judge .ensures))))
 
 pub read-replaced-spec : {M : Type 1} → statement M
-read-replaced-spec = tie.close (tie.spec (search needs) (search needs) unasked parse-replaced-requires returns)
+read-replaced-spec = tie.close (tie.spec unasked (search needs) (λ c κs. search needs) (search needs) (search needs) (search needs)
+    (search needs) (search needs) returns)

@@ -1,23 +1,12 @@
--- The fields come from legal bytes or from zeros, either as long as the message. Assumes nothing.
-use Rattle.octets.proofs.Needs.{unasked}
-use borrow.Author.Needs.{needs}
-use Rattle.wire.specs.Messages.{systemEvent}
-use Rattle.wire.proofs.RoundTrips.{kept-is, kept-long}
-use Rattle.outbound.specs.Outbound.{readSystemEvent}
+-- The answer is the judge's, and the fields are those of what it let through. Assumes nothing.
+use Rattle.outbound.proofs.Codec.{unasked, needs, systemEventOf}
 use Rattle.outbound.proofs.system_event.read_system_event.Statement.{statement}
 use Rattle.outbound.proofs.system_event.read_system_event.Tie as tie
 
-parse-system-event-requires : tie.Need-parse-system-event-requires
-parse-system-event-requires c κs =
-    let j = c .before .before in
-    kept-long systemEvent (j .before .before .args .s .now) (j .judge .ensures) (c .taken .ensures)
-
 returns : tie.Need-returns
-unfolding readSystemEvent
-returns c =
-    let j = c .before .before .before in
-    let bytes = kept-is systemEvent (j .before .before .args .s .now) (j .judge .ensures) (c .before .taken .ensures) in
-    cc
+unfolding systemEventOf
+returns c = rw (c .byte-at .ensures, c .before .be64 .ensures, c .before .before .legal-or-zeros .ensures .0)
+    (rw (c .before .before .before .before .judge .ensures))
 
 pub read-system-event-spec : {M : Type 1} → statement M
-read-system-event-spec = tie.close (tie.spec (search needs) (search needs) unasked parse-system-event-requires returns)
+read-system-event-spec = tie.close (tie.spec unasked (search needs) (λ c κs. search needs) (search needs) (search needs) returns)

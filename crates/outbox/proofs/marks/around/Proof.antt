@@ -1,6 +1,5 @@
 -- The test of the code is the test of the definition. Assumes nothing.
-use native.Mathlib.Omega.{arith}
-use borrow.Author.Tests.{lt-ltb, le-ltb}
+use Rattle.octets.proofs.Proving.{arith, le-ltb, lt-ltb}
 use Rattle.outbox.proofs.marks.around.Statement.{statement}
 use Rattle.outbox.proofs.marks.around.Tie as tie
 

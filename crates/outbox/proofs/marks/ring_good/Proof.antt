@@ -1,6 +1,5 @@
 -- At each return the tests that led there are the tests of the definition. Assumes nothing.
-use borrow.Author.Tests.{lt-ltb, le-ltb, le-leb, lt-leb}
-use mathlib.Core.Bool.{and-true}
+use Rattle.octets.proofs.Proving.{and-true, le-leb, le-ltb, lt-leb, lt-ltb}
 use Rattle.outbox.specs.Outbox.{ringGood}
 use Rattle.outbox.proofs.marks.ring_good.Statement.{statement}
 use Rattle.outbox.proofs.marks.ring_good.Tie as tie

@@ -1,11 +1,6 @@
 -- The place behind the held bytes is computed once; a put is the two runs from there on. Assumes nothing.
-use Rattle.octets.proofs.Needs.{unasked}
-use mathlib.Core.Path.{refl, sym, ap, _∙_}
-use Prim.Native.Nat.{ℕ, _+_, _<_}
-use native.Mathlib.Omega.{arith}
-use lib.ListN.{length}
+use Rattle.octets.proofs.Proving.{_+_, _<_, _∙_, ap, arith, length, needs, refl, sym, unasked, ℕ}
 use denote.Ref.{now}
-use borrow.Author.Needs.{needs}
 use Rattle.outbox.specs.Outbox.{marksWith, freeBytes}
 use Rattle.outbox.specs.Runs.{inTwoRuns}
 use Rattle.outbox.proofs.Right.{right}
@@ -14,9 +9,6 @@ use Rattle.outbox.proofs.With.{fits-free}
 use Rattle.outbox.proofs.Runs.{two-runs}
 use Rattle.outbox.proofs.put.append.Statement.{statement}
 use Rattle.outbox.proofs.put.append.Tie as tie
-
-add-around : tie.Need-add-around
-add-around c = omega (arith, right _ _ (c .before .before .pre .0))
 
 -- the place is in the ring
 place : (c : tie.After-around) → c .around .result < length (now (c .before .before .before .args .ring))
@@ -46,4 +38,6 @@ returns c =
     )
 
 pub append-spec : {M : Type 1} → statement M
-append-spec = tie.close (tie.spec add-around unasked copy-around-requires add-t8 (search needs) returns)
+append-spec =
+    tie.close (tie.spec (λ c. omega (arith, right _ _ (c .before .before .pre .0))) unasked copy-around-requires add-t8 (search needs)
+    returns)

@@ -1,12 +1,6 @@
 -- At each return the tests that led there are the guards of `putAnswer`. Assumes nothing.
-use Rattle.octets.proofs.Needs.{unasked}
-use mathlib.Core.Path.{_≡_, refl, sym, ap, _∙_}
-use mathlib.Core.Bool.{true}
-use native.Mathlib.Omega.{arith}
-use lib.ListN.{length}
+use Rattle.octets.proofs.Proving.{_∙_, _≡_, ap, arith, le-ltb, length, lt-ltb, needs, refl, sym, true, unasked}
 use denote.Ref.{now}
-use borrow.Author.Needs.{needs}
-use borrow.Author.Tests.{lt-ltb, le-ltb}
 use Rattle.answers.specs.Answer.{isDone, ifDone}
 use Rattle.answers.specs.declared.Answer.the-variants.{Done}
 use Rattle.outbox.specs.Outbox.{Marks, ringGood, freeBytes, putAnswer, putMarks, putRing}
@@ -16,9 +10,6 @@ use Rattle.outbox.proofs.put.put.Tie as tie
 
 good : (c : tie.Then1) → ringGood (length (now (c .before .before .before .before .args .ring))) (c .before .before .before .before .args .marks) ≡ true
 good c = sym (c .before .ring-good .ensures) ∙ c .if1 .taken
-
-sub-if2 : tie.Need-sub-if2
-sub-if2 c = omega (arith, right _ _ (good c))
 
 append-requires : tie.Need-append-requires
 unfolding freeBytes
@@ -40,4 +31,6 @@ unfolding putAnswer putMarks putRing freeBytes ifDone isDone
 returns-3 c = simp (sym (c .before .before .ring-good .ensures) ∙ c .before .if1 .left) (c .refused2 .ensures, refl)
 
 pub put-spec : {M : Type 1} → statement M
-put-spec = tie.close (tie.spec unasked sub-if2 append-requires unasked unasked (search needs) returns returns-2 returns-3)
+put-spec =
+    tie.close (tie.spec unasked (λ c. omega (arith, right _ _ (good c))) append-requires unasked unasked (search needs) returns returns-2
+    returns-3)

@@ -1,14 +1,6 @@
 -- The part is cut where the held bytes end or where the ring ends, whichever comes first. Assumes nothing.
-use Rattle.octets.proofs.Needs.{unasked}
-use mathlib.Core.Path.{_≡_, refl, sym, ap, _∙_}
-use mathlib.Core.Bool.{true}
-use Prim.Native.Nat.{ℕ, _-_}
-use native.Mathlib.Nat.{add-sub-cancel-left, zero-add}
-use native.Mathlib.Omega.{arith}
-use lib.ListN.{length, take, drop, length-drop}
-use lib.Seq.{take-all}
+use Rattle.octets.proofs.Proving.{_-_, _∙_, _≡_, add-sub-cancel-left, ap, arith, drop, length, length-drop, needs, refl, sym, take, take-all, true, unasked, zero-add, ℕ}
 use denote.Ref.{now}
-use borrow.Author.Needs.{needs}
 use Rattle.outbox.specs.Outbox.{ringGood, readRun}
 use Rattle.outbox.specs.Place.{readPlace}
 use Rattle.outbox.proofs.Right.{right}
@@ -17,18 +9,6 @@ use Rattle.outbox.proofs.read.read.Tie as tie
 
 good : (c : tie.Then1) → ringGood (length (now (c .before .before .before .args .ring))) (c .before .before .before .args .marks) ≡ true
 good c = sym (c .before .ring-good .ensures) ∙ c .if1 .taken
-
-sub-if2 : tie.Need-sub-if2
-sub-if2 c = omega (arith, right _ _ (good c))
-
-part-result-end : tie.Need-part-result-end
-part-result-end c = omega (arith, right _ _ (good (c .before)))
-
-sub-result-2 : tie.Need-sub-result-2
-sub-result-2 c = omega (arith, right _ _ (good (c .before)))
-
-part-result-start-2 : tie.Need-part-result-start-2
-part-result-start-2 c = omega (arith, right _ _ (good (c .before)))
 
 returns : tie.Need-returns
 unfolding readRun readPlace
@@ -52,6 +32,6 @@ returns-3 c =
 
 pub read-spec : {M : Type 1} → statement M
 read-spec =
-    tie.close
-    (tie.spec unasked sub-if2 (search needs) (search needs) (search needs) part-result-end sub-result-2 part-result-start-2 (search needs)
-    (search needs) returns returns-2 returns-3)
+    tie.close (tie.spec unasked (λ c. omega (arith, right _ _ (good c))) (search needs) (search needs) (search needs)
+    (λ c. omega (arith, right _ _ (good (c .before)))) (λ c. omega (arith, right _ _ (good (c .before))))
+    (λ c. omega (arith, right _ _ (good (c .before)))) (search needs) (search needs) returns returns-2 returns-3)

@@ -1,9 +1,5 @@
 -- At each return the tests that led there are the guards of `releaseAnswer`. Assumes nothing.
-use Rattle.octets.proofs.Needs.{unasked}
-use mathlib.Core.Path.{_≡_, sym, _∙_}
-use mathlib.Core.Bool.{true}
-use native.Mathlib.Omega.{arith}
-use borrow.Author.Tests.{lt-ltb, le-ltb}
+use Rattle.octets.proofs.Proving.{_∙_, _≡_, arith, le-ltb, lt-ltb, sym, true, unasked}
 use Rattle.answers.specs.Answer.{isDone, ifDone}
 use Rattle.outbox.specs.Outbox.{ringGood, releaseAnswer, marksWithout, releaseMarks}
 use Rattle.outbox.proofs.Right.{right}
@@ -12,9 +8,6 @@ use Rattle.outbox.proofs.release.release.Tie as tie
 
 good : (c : tie.Then1) → ringGood (c .before .before .args .n) (c .before .before .args .marks) ≡ true
 good c = sym (c .before .ring-good .ensures) ∙ c .if1 .taken
-
-add-around : tie.Need-add-around
-add-around c = omega (arith, right _ _ (good (c .before)))
 
 returns : tie.Need-returns
 unfolding releaseAnswer releaseMarks marksWithout ifDone isDone
@@ -29,4 +22,5 @@ unfolding releaseAnswer releaseMarks marksWithout ifDone isDone
 returns-3 c = simp (sym (c .before .before .ring-good .ensures) ∙ c .before .if1 .left) (c .refused2 .ensures)
 
 pub release-spec : {M : Type 1} → statement M
-release-spec = tie.close (tie.spec unasked add-around unasked unasked unasked returns returns-2 returns-3)
+release-spec =
+    tie.close (tie.spec unasked (λ c. omega (arith, right _ _ (good (c .before)))) unasked unasked unasked returns returns-2 returns-3)

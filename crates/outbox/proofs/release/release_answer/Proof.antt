@@ -1,6 +1,5 @@
 -- What `release` promises of its answer. Assumes nothing.
-use Rattle.octets.proofs.Needs.{unasked}
-use mathlib.Core.Path.{ap}
+use Rattle.octets.proofs.Proving.{ap, unasked}
 use Rattle.outbox.specs.Outbox.{Moved}
 use Rattle.outbox.proofs.release.release_answer.Statement.{statement}
 use Rattle.outbox.proofs.release.release_answer.Tie as tie

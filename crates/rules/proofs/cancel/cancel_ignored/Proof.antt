@@ -1,4 +1,4 @@
--- The gathered tests are the definition's. Assumes nothing.
+-- Test for test. Assumes nothing.
 use Rattle.octets.proofs.Needs.{unasked}
 use Rattle.rules.specs.Cancel.{cancelIgnored}
 use Rattle.rules.proofs.cancel.cancel_ignored.Statement.{statement}
@@ -6,7 +6,7 @@ use Rattle.rules.proofs.cancel.cancel_ignored.Tie as tie
 
 returns : tie.Need-returns
 unfolding cancelIgnored
-returns c = simp (c .before .before .before .is-live .ensures, c .is-pending .ensures)
+returns c = cc
 
 pub cancel-ignored-spec : {M : Type 1} → statement M
-cancel-ignored-spec = tie.close (tie.spec unasked unasked returns)
+cancel-ignored-spec = tie.close (tie.spec unasked unasked unasked returns)

@@ -1,30 +1,27 @@
--- Either way the end is the larger of the two totals, and neither is above liable. Assumes nothing.
-use Prim.Native.Nat.{max}
-use mathlib.Core.Path.{_≡_, ap}
-use mathlib.Core.Logic.{⊎-elim}
-use native.Mathlib.Omega.{arith}
-use Rattle.wire.specs.Shares.{removed}
-use Rattle.wire.specs.declared.shares.Total.{Total}
-use Rattle.table.specs.Counts.{gone}
+-- The smaller of two steps down is the step down to the larger total. Assumes nothing.
+use Rattle.octets.proofs.Proving.{_∙_, ap, arith, ltb-false, ltb-true, sym, unasked}
 use Rattle.rules.specs.Cancel.{decrement}
-use borrow.Author.Needs.{needs}
+use Rattle.orders.specs.Counts.{gone, openShares}
+use Rattle.wire.specs.Shares.{removed}
+use Rattle.wire.specs.declared.shares.Removed.{Removed}
 use Rattle.rules.proofs.cancel.decrement.Statement.{statement}
 use Rattle.rules.proofs.cancel.decrement.Tie as tie
 
-larger-end : (c : tie.Joined1)
-    → c .if1 .end ≡ max (c .before .before .before .before .args .size .0) (gone (c .before .before .before .before .args .o .shares) .0)
-unfolding gone
-larger-end c =
-    let floor = ap (λ (t : Total). t .0) (c .before .before .before .gone .ensures) in
-    ⊎-elim (λ t. omega (arith, t .0 .taken, t .1)) (λ e. omega (arith, e .0 .left, e .1)) (c .if1 .came)
-
-sub-by : tie.Need-sub-by
-unfolding gone
-sub-by c = omega (arith, larger-end (c .before .before))
-
 returns : tie.Need-returns
-unfolding decrement gone
-returns c = ap removed (omega (arith, larger-end (c .before .before)))
+unfolding decrement gone openShares
+returns c =
+    let p = c .before .before in
+    let less = ap (λ (r : Removed). r .0) (p .before .less .ensures) in
+    let rest = ap (λ (r : Removed). r .0) (p .open-shares .ensures) in
+    ap removed (omega (arith, ltb-true (p .open-shares .result .0) (p .before .less .result .0) (sym (c .before .exceeds .ensures) ∙ c .if1 .taken)))
+
+returns-2 : tie.Need-returns-2
+unfolding decrement gone openShares
+returns-2 c =
+    let p = c .before .before in
+    let less = ap (λ (r : Removed). r .0) (p .before .less .ensures) in
+    let rest = ap (λ (r : Removed). r .0) (p .open-shares .ensures) in
+    ap removed (omega (arith, ltb-false (p .open-shares .result .0) (p .before .less .result .0) (sym (c .before .exceeds .ensures) ∙ c .if1 .left)))
 
 pub decrement-spec : {M : Type 1} → statement M
-decrement-spec = tie.close (tie.spec (λ c κs. search needs) sub-by returns)
+decrement-spec = tie.close (tie.spec unasked unasked unasked returns returns-2)

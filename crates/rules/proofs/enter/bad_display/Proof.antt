@@ -1,4 +1,4 @@
--- The gathered tests are the definition's. Assumes nothing.
+-- Test for test. Assumes nothing.
 use Rattle.octets.proofs.Needs.{unasked}
 use Rattle.rules.specs.Enter.{badDisplay}
 use Rattle.rules.proofs.enter.bad_display.Statement.{statement}
@@ -6,7 +6,7 @@ use Rattle.rules.proofs.enter.bad_display.Tie as tie
 
 returns : tie.Need-returns
 unfolding badDisplay
-returns c = simp (c .is-display .ensures)
+returns c = cc
 
 pub bad-display-spec : {M : Type 1} → statement M
 bad-display-spec = tie.close (tie.spec unasked returns)

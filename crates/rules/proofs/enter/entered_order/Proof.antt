@@ -1,4 +1,4 @@
--- The order is field by field the definition's. Assumes nothing.
+-- Each call is what it promises. Assumes nothing.
 use Rattle.octets.proofs.Needs.{unasked}
 use Rattle.rules.specs.Enter.{enteredOrder}
 use Rattle.rules.proofs.enter.entered_order.Statement.{statement}
@@ -6,7 +6,7 @@ use Rattle.rules.proofs.enter.entered_order.Tie as tie
 
 returns : tie.Need-returns
 unfolding enteredOrder
-returns c = simp (c .before .before .new-counts .ensures, c .before .entered-kept .ensures, c .accepted-terms .ensures)
+returns c = cc
 
 pub entered-order-spec : {M : Type 1} → statement M
 entered-order-spec = tie.close (tie.spec unasked unasked unasked returns)

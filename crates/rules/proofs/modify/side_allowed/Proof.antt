@@ -1,4 +1,4 @@
--- The gathered tests are the definition's. Assumes nothing.
+-- Test for test. Assumes nothing.
 use Rattle.octets.proofs.Needs.{unasked}
 use Rattle.rules.specs.Modify.{sideAllowed}
 use Rattle.rules.proofs.modify.side_allowed.Statement.{statement}
@@ -6,7 +6,7 @@ use Rattle.rules.proofs.modify.side_allowed.Tie as tie
 
 returns : tie.Need-returns
 unfolding sideAllowed
-returns c = simp (c .before .is-sell-side .ensures, c .is-sell-side2 .ensures)
+returns c = cc
 
 pub side-allowed-spec : {M : Type 1} → statement M
 side-allowed-spec = tie.close (tie.spec unasked unasked returns)

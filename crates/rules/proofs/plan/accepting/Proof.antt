@@ -1,4 +1,4 @@
--- The plan is field by field the definition's, once `no_order` is known to be no order. Assumes nothing.
+-- The one constructor, with what this decision says. Assumes nothing.
 use Rattle.octets.proofs.Needs.{unasked}
 use Rattle.rules.specs.Plan.{accepting}
 use Rattle.rules.proofs.plan.accepting.Statement.{statement}
@@ -6,7 +6,7 @@ use Rattle.rules.proofs.plan.accepting.Tie as tie
 
 returns : tie.Need-returns
 unfolding accepting
-returns c = simp (c .no-order .ensures)
+returns c = cc
 
 pub accepting-spec : {M : Type 1} → statement M
-accepting-spec = tie.close (tie.spec unasked returns)
+accepting-spec = tie.close (tie.spec unasked unasked returns)

@@ -1,4 +1,4 @@
--- The plan is field by field the definition's, once `no_order` is known to be no order. Assumes nothing.
+-- The one constructor, with what this decision says. Assumes nothing.
 use Rattle.octets.proofs.Needs.{unasked}
 use Rattle.rules.specs.Plan.{changing}
 use Rattle.rules.proofs.plan.changing.Statement.{statement}
@@ -6,7 +6,7 @@ use Rattle.rules.proofs.plan.changing.Tie as tie
 
 returns : tie.Need-returns
 unfolding changing
-returns c = simp (c .no-order .ensures)
+returns c = cc
 
 pub changing-spec : {M : Type 1} → statement M
-changing-spec = tie.close (tie.spec unasked returns)
+changing-spec = tie.close (tie.spec unasked unasked returns)

@@ -1,4 +1,4 @@
--- The plan is field by field the definition's, once the two orders in it are known. Assumes nothing.
+-- The one constructor, with what this decision says. Assumes nothing.
 use Rattle.octets.proofs.Needs.{unasked}
 use Rattle.rules.specs.Plan.{rejecting}
 use Rattle.rules.proofs.plan.rejecting.Statement.{statement}
@@ -6,7 +6,7 @@ use Rattle.rules.proofs.plan.rejecting.Tie as tie
 
 returns : tie.Need-returns
 unfolding rejecting
-returns c = simp (c .before .no-order .ensures, c .rejected-order .ensures)
+returns c = cc
 
 pub rejecting-spec : {M : Type 1} → statement M
-rejecting-spec = tie.close (tie.spec unasked unasked returns)
+rejecting-spec = tie.close (tie.spec unasked unasked unasked returns)

@@ -1,9 +1,5 @@
 -- The place of the next letter lies inside the quotes. Assumes nothing.
-use Rattle.octets.proofs.Needs.{unasked}
-use Prim.Native.Nat.{_≤_, _-_}
-use mathlib.Core.Path.{_≡_}
-use lib.ListN.{length}
-use borrow.Author.Needs.{needs}
+use Rattle.octets.proofs.Proving.{_-_, _≡_, _≤_, length, needs, unasked}
 use Rattle.show.proofs.words.say_text.Statement.{statement}
 use Rattle.show.proofs.words.say_text.Tie as tie
 

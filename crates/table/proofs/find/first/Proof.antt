@@ -1,15 +1,9 @@
 -- The loop's invariant: the first from 0 on is the first from i on. The measure is what is left of n.
-use mathlib.Core.Path.{_≡_, sym, ap, _∙_}
-use mathlib.Core.Bool.{Bool, true, false}
-use mathlib.Core.List.{List}
-use Prim.Native.Nat.{ℕ, suc, _+_, _-_, _≤_, _<_}
-use native.Mathlib.Nat.{sub-zero}
-use native.Mathlib.Omega.{arith}
+use Rattle.octets.proofs.Proving.{Bool, List, _+_, _-_, _<_, _∙_, _≡_, _≤_, ap, arith, false, needs, sub-zero, suc, sym, true, ℕ}
 use Rattle.octets.specs.Choice.{pick}
 use Rattle.octets.specs.Bytes.{same}
-use Rattle.table.specs.Order.{orderOf}
+use Rattle.orders.specs.Order.{orderOf}
 use Rattle.table.specs.Table.{orderAt, placeFrom}
-use borrow.Author.Needs.{needs}
 use Rattle.table.proofs.find.first.Statement.{statement}
 use Rattle.table.proofs.find.first.Tie as tie
 

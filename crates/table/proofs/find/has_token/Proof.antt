@@ -1,8 +1,6 @@
 -- The last four bytes decide, or the ten before them do.
-use mathlib.Core.Path.{sym, _∙_}
-use native.Mathlib.Omega.{arith}
+use Rattle.octets.proofs.Proving.{_∙_, arith, needs, sym}
 use Rattle.table.proofs.Tokens.{last-four-same, last-four-differ}
-use borrow.Author.Needs.{needs}
 use Rattle.table.proofs.find.has_token.Statement.{statement}
 use Rattle.table.proofs.find.has_token.Tie as tie
 

@@ -1,13 +1,7 @@
 -- The loop's invariant: what is gathered and the first k bytes come to the first n. The measure is k.
-use mathlib.Core.Path.{_≡_, refl, sym, ap, _∙_}
-use mathlib.Core.Bool.{_&&_, and-true}
-use Prim.Native.Nat.{ℕ, _+_, _≤_}
-use native.Mathlib.Omega.{arith}
-use lib.ListN.{getD}
-use lib.Dec.{eqb}
+use Rattle.octets.proofs.Proving.{_&&_, _+_, _∙_, _≡_, _≤_, and-true, ap, arith, eqb, getD, needs, refl, sym, ℕ}
 use Rattle.octets.specs.Choice.{allBelow}
 use Rattle.octets.proofs.Below.{all-back}
-use borrow.Author.Needs.{needs}
 use Rattle.table.proofs.find.token_to.Statement.{statement}
 use Rattle.table.proofs.find.token_to.Tie as tie
 

@@ -1,12 +1,6 @@
 -- The loop's invariant: the first i bytes are zero, and the table is as long as it was. The measure is what is left of it.
-use mathlib.Core.Path.{_≡_, refl, sym, ap, _∙_}
-use Prim.Native.Nat.{ℕ, _-_, _≤_}
-use native.Mathlib.Numerals.{add-one}
-use native.Mathlib.Omega.{arith}
-use lib.ListN.{length, take, length-set, replicate-append-replicate}
-use lib.Seq.{take-suc-set, take-length}
+use Rattle.octets.proofs.Proving.{_-_, _∙_, _≡_, _≤_, add-one, ap, arith, length, length-set, needs, refl, replicate-append-replicate, sym, take, take-length, take-suc-set, ℕ}
 use Rattle.octets.specs.Bytes.{zeros}
-use borrow.Author.Needs.{needs}
 use Rattle.table.proofs.fresh.clear.Statement.{statement}
 use Rattle.table.proofs.fresh.clear.Tie as tie
 

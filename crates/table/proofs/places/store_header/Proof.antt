@@ -1,16 +1,21 @@
--- The header is put over the first 64 bytes, which are lent whole.
+-- The header is put over the first 64 bytes, which are lent whole. Assumes nothing.
+use Rattle.octets.proofs.Proving.{le-leb, lt-leb, needs}
 use Rattle.octets.proofs.Laws.{put-lent}
 use Rattle.table.specs.Table.{storeHeader}
-use borrow.Author.Needs.{needs}
 use Rattle.table.proofs.places.store_header.Statement.{statement}
 use Rattle.table.proofs.places.store_header.Tie as tie
 
 returns : tie.Need-returns
 unfolding storeHeader
 returns c =
-    let a = c .before .before .before .before .before .args in
+    let there = c .before .before .before .before in
     let e = c .before .before .put-header .ensures in
-    put-lent (a .table .now) 0 64 _ _ (e .0) (e .1)
+    rw (le-leb 64 _ (there .if1 .taken)) (put-lent (there .before .before .args .table .now) 0 64 _ _ (e .0) (e .1))
+
+returns-2 : tie.Need-returns-2
+unfolding storeHeader
+returns-2 c = rw (lt-leb 64 _ (c .if1 .left))
 
 pub store-header-spec : {M : Type 1} → statement M
-store-header-spec = tie.close (tie.spec (search needs) (search needs) (search needs) (search needs) (search needs) returns)
+store-header-spec =
+    tie.close (tie.spec (search needs) (search needs) (search needs) (search needs) (search needs) returns returns-2)

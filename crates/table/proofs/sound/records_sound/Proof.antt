@@ -1,13 +1,9 @@
 -- The loop's invariant: each record before i is sound. The measure is what is left of n.
-use mathlib.Core.Path.{_≡_, refl, sym, ap, _∙_}
-use mathlib.Core.Bool.{true}
-use Prim.Native.Nat.{_-_, _≤_}
-use native.Mathlib.Omega.{arith}
+use Rattle.octets.proofs.Proving.{_-_, _∙_, _≡_, _≤_, ap, arith, needs, refl, sym, true}
 use Rattle.octets.specs.Choice.{allBelow}
 use Rattle.octets.proofs.Below.{all-true, all-false}
-use Rattle.table.specs.Order.{recordSound}
+use Rattle.orders.specs.Sound.{recordSound}
 use Rattle.table.specs.Table.{recordBytes}
-use borrow.Author.Needs.{needs}
 use Rattle.table.proofs.sound.records_sound.Statement.{statement}
 use Rattle.table.proofs.sound.records_sound.Tie as tie
 

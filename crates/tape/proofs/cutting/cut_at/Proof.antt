@@ -1,9 +1,5 @@
 -- Each return is the guard of `cutAt` that its tests led to; the length is what the kind byte fixes. Assumes nothing.
-use Rattle.octets.proofs.Needs.{unasked}
-use Prim.Native.Nat.{_-_}
-use mathlib.Core.Path.{sym, _∙_}
-use borrow.Author.Needs.{needs}
-use borrow.Author.Tests.{le-leb, lt-leb, lt-ltb, le-ltb, eq-eqb, ne-eqb}
+use Rattle.octets.proofs.Proving.{_-_, _∙_, eq-eqb, le-leb, le-ltb, lt-leb, lt-ltb, ne-eqb, needs, sym, unasked}
 use Rattle.tape.specs.Cutting.{cutAt}
 use Rattle.tape.proofs.cutting.cut_at.Statement.{statement}
 use Rattle.tape.proofs.cutting.cut_at.Tie as tie
@@ -16,12 +12,12 @@ returns-2 : tie.Need-returns-2
 unfolding cutAt
 returns-2 c =
     let p = c .before .before .before in
-    simp (lt-leb _ _ (p .if1 .left), eq-eqb _ _ (sym (c .before .length-of .ensures) ∙ c .if2 .taken))
+    simp (lt-leb _ _ (p .if1 .left), eq-eqb _ _ (sym (c .before .entry-length .ensures) ∙ c .if2 .taken))
 
 returns-3 : tie.Need-returns-3
 unfolding cutAt
 returns-3 c =
-    let e = c .before .before .length-of .ensures in
+    let e = c .before .before .entry-length .ensures in
     let p = c .before .before .before .before in
     simp (
       lt-leb _ _ (p .if1 .left),
@@ -32,7 +28,7 @@ returns-3 c =
 returns-4 : tie.Need-returns-4
 unfolding cutAt
 returns-4 c =
-    let e = c .before .before .length-of .ensures in
+    let e = c .before .before .entry-length .ensures in
     let p = c .before .before .before .before in
     simp (
       e,

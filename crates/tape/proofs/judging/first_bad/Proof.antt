@@ -1,23 +1,29 @@
--- The stamp's place, or what is bad behind it. Assumes nothing.
-use Rattle.octets.proofs.Needs.{unasked}
-use mathlib.Core.Path.{ap, _∙_}
-use native.Mathlib.Omega.{arith}
-use borrow.Author.Needs.{needs}
-use Rattle.wire.specs.Layout.{earlierOf}
-use Rattle.wire.specs.declared.places.Place.{Place}
-use Rattle.tape.specs.Behind.{badStamp}
-use Rattle.tape.proofs.Judged.{stamp-fits}
+-- A stamp, and what is judged behind it. Assumes nothing.
+use Rattle.octets.proofs.Proving.{_∙_, _≡_, ap, length, subst, sym, unasked}
+use Rattle.wire.specs.Layout.{stampAt, place}
+use Rattle.tape.specs.Kinds.{kindOf}
+use Rattle.tape.specs.Entries.{badPlaceOf}
+use Rattle.tape.specs.Behind.{behindOf, judgedFields, Within}
+use Rattle.tape.proofs.Formed.{formed, stamp-fits, within, judged, behind}
 use Rattle.tape.proofs.judging.first_bad.Statement.{statement}
 use Rattle.tape.proofs.judging.first_bad.Tie as tie
 
-bad-stamp-requires : tie.Need-bad-stamp-requires
-bad-stamp-requires c κs = omega (arith, stamp-fits _ (c .before .pre))
+bad-behind-requires : tie.Need-bad-behind-requires
+bad-behind-requires c κs =
+    let p = c .before .before .before in
+    let s = p .args .entry .now in
+    let b = c .behind-of .ensures ∙ ap behindOf (p .pre .0) in
+    rw b (rw (formed s (p .pre .1) .long) (within (kindOf s)))
 
 returns : tie.Need-returns
-unfolding badStamp
+unfolding badPlaceOf
 returns c =
-    let rest = c .before .bad-behind-stamp in
-    c .earlier .ensures ∙ ap (λ (p : Place). earlierOf p (rest .result)) (c .before .before .bad-stamp .ensures) ∙ rest .ensures
+    let p = c .before .before .before .before .before in
+    let s = p .args .entry .now in
+    let b = c .before .before .behind-of .ensures ∙ ap behindOf (p .pre .0) in
+    behind (stampAt 1) (judgedFields (behindOf (kindOf s))) s (c .earlier .ensures) (c .before .before .before .bad-stamp .ensures)
+    (rw b at (c .before .bad-behind .ensures))
+    ∙ sym (ap place (judged (kindOf s) s (formed s (p .pre .1) .known)))
 
 pub first-bad-spec : {M : Type 1} → statement M
-first-bad-spec = tie.close (tie.spec bad-stamp-requires (λ c κs. search needs) unasked returns)
+first-bad-spec = tie.close (tie.spec (λ c κs. stamp-fits _ (c .before .pre .1)) unasked bad-behind-requires unasked returns)

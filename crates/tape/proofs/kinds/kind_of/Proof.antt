@@ -1,19 +1,16 @@
--- Where there is no byte, what stands at 0 is 0. Assumes nothing.
-use mathlib.Core.Path.{refl, sym}
-use native.Mathlib.Omega.{arith}
-use lib.ListN.{List·getD-eq-default}
-use borrow.Author.Needs.{needs}
-use Rattle.tape.specs.Entries.{kindOf}
+-- The first byte, where there is one. Assumes nothing.
+use Rattle.octets.proofs.Proving.{List·getD-eq-default, _≡_, arith, needs, unasked}
+use Rattle.tape.specs.Kinds.{kindBy, kindOf}
 use Rattle.tape.proofs.kinds.kind_of.Statement.{statement}
 use Rattle.tape.proofs.kinds.kind_of.Tie as tie
 
 returns : tie.Need-returns
-unfolding kindOf
-returns c = sym (List·getD-eq-default (c .before .args .entry .now) 0 {n = 0} (omega arith))
+unfolding kindOf kindBy
+returns c = rw (List·getD-eq-default (c .before .before .args .entry .now) 0 {n = 0} (omega arith))
 
 returns-2 : tie.Need-returns-2
 unfolding kindOf
-returns-2 c = refl
+returns-2 c = c .kind-by .ensures
 
 pub kind-of-spec : {M : Type 1} → statement M
-kind-of-spec = tie.close (tie.spec returns (search needs) returns-2)
+kind-of-spec = tie.close (tie.spec returns (search needs) unasked returns-2)

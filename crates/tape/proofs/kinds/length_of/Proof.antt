@@ -1,20 +1,34 @@
--- The table's rule at the kind's place. Assumes nothing.
-use Rattle.octets.proofs.Needs.{unasked}
-use Prim.Native.Nat.{ℕ}
-use mathlib.Core.Path.{sym, ap, _∙_}
-use native.Mathlib.Omega.{arith}
-use lib.ListN.{getD}
-use borrow.Author.Needs.{needs}
-use Rattle.tape.proofs.Lengths.{lengths, known, unknown}
+-- The table of lengths says what the layouts say. Assumes nothing.
+use Rattle.octets.proofs.Proving.{List, [], _<_, _∙_, _∷_, _≡_, ap, arith, getD, refl, unasked, ℕ}
+use Rattle.tape.specs.Kinds.{Kind, Enters, Replaces, Cancels, Modifies, Executes, BookCancels, SelfMatches, Prioritises, TurnsLate, EndsCross, TellsDay, Unknown, kindPlace, layoutOf}
 use Rattle.tape.proofs.kinds.length_of.Statement.{statement}
 use Rattle.tape.proofs.kinds.length_of.Tie as tie
 
+lengths : List ℕ
+lengths = 56 ∷ 55 ∷ 27 ∷ 28 ∷ 40 ∷ 28 ∷ 36 ∷ 27 ∷ 23 ∷ 23 ∷ 10 ∷ 0 ∷ []
+
+at-place : (kind : Kind) → (kindPlace kind < 12) × ((getD lengths (kindPlace kind) 0 < 256) × (getD lengths (kindPlace kind) 0 ≡ layoutOf kind .size))
+unfolding lengths
+at-place Enters = (omega arith, (omega arith, refl))
+at-place Replaces = (omega arith, (omega arith, refl))
+at-place Cancels = (omega arith, (omega arith, refl))
+at-place Modifies = (omega arith, (omega arith, refl))
+at-place Executes = (omega arith, (omega arith, refl))
+at-place BookCancels = (omega arith, (omega arith, refl))
+at-place SelfMatches = (omega arith, (omega arith, refl))
+at-place Prioritises = (omega arith, (omega arith, refl))
+at-place TurnsLate = (omega arith, (omega arith, refl))
+at-place EndsCross = (omega arith, (omega arith, refl))
+at-place TellsDay = (omega arith, (omega arith, refl))
+at-place Unknown = (omega arith, (omega arith, refl))
+
+cast-result : tie.Need-cast-result
+unfolding lengths
+cast-result c = rw (c .place-of .ensures) (omega (arith, at-place (c .before .args .kind) .1 .0))
+
 returns : tie.Need-returns
 unfolding lengths
-returns c = ap (λ (k : ℕ). getD lengths k 0) (c .before .place-of .ensures) ∙ known (c .before .before .args .kind)
-
-returns-2 : tie.Need-returns-2
-returns-2 c = sym (unknown (c .before .before .args .kind) (omega (arith, c .before .place-of .ensures)))
+returns c = rw (c .place-of .ensures) (at-place (c .before .args .kind) .1 .1)
 
 pub length-of-spec : {M : Type 1} → statement M
-length-of-spec = tie.close (tie.spec unasked (search needs) (search needs) returns returns-2)
+length-of-spec = tie.close (tie.spec unasked (λ c. rw (c .place-of .ensures) (at-place (c .before .args .kind) .0)) cast-result returns)

@@ -1,9 +1,5 @@
 -- All that is left behind the first eight bytes. Assumes nothing.
-use Prim.Native.Nat.{_-_}
-use native.Mathlib.Omega.{arith}
-use lib.ListN.{length, drop, length-take, length-drop}
-use lib.Seq.{take-all}
-use borrow.Author.Needs.{needs}
+use Rattle.octets.proofs.Proving.{_-_, arith, drop, length, length-drop, length-take, needs, take-all}
 use Rattle.tape.specs.Entries.{messageIn}
 use Rattle.tape.proofs.reading.message_in.Statement.{statement}
 use Rattle.tape.proofs.reading.message_in.Tie as tie

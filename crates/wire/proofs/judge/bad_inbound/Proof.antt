@@ -1,66 +1,53 @@
--- Each answer is the message's line in `Numbered`. Assumes nothing.
-use Rattle.octets.proofs.Needs.{unasked}
-use mathlib.Core.Path.{refl}
-use native.Mathlib.Omega.{arith}
-use borrow.Author.Needs.{needs}
-use Rattle.octets.specs.Choice.{allBelow}
-use Rattle.wire.proofs.Numbered.{long, enter-order-place, replace-order-place, cancel-order-place, modify-order-place}
+-- Each arm asks about the fields that its message judges, in their order. Assumes nothing.
+use Rattle.octets.proofs.Proving.{arith, needs, unasked}
+use Rattle.wire.specs.Layout.{badPlace, firstBadPlace}
+use Rattle.wire.proofs.Numbered.{inbound-long, fits-from, last-inbound, place-earlier, or-none}
 use Rattle.wire.proofs.judge.bad_inbound.Statement.{statement}
 use Rattle.wire.proofs.judge.bad_inbound.Tie as tie
 
-bad-token-requires : tie.Need-bad-token-requires
-unfolding allBelow
-bad-token-requires c κs =
-    let s = c .before in
-    omega (arith, s .pre .1, long 19 0 4 refl (s .args .k) (search needs) (search needs))
-
-returns : tie.Need-returns
-returns c =
-    let e = cancel-order-place (c .before .before .before .args .k) (c .before .before .before .args .s .now) (c .if1 .taken) in
-    cc
-
-bad-side-requires : tie.Need-bad-side-requires
-unfolding allBelow
-bad-side-requires c κs =
-    let s = c .before .before .before .before in
-    omega (arith, s .pre .1, long 19 0 4 refl (s .args .k) (search needs) (search needs))
-
-returns-2 : tie.Need-returns-2
-returns-2 c =
-    let e = modify-order-place (c .before .before .before .before .before .before .args .k) (c .before .before .before .before .before .before .args .s .now) (c .before .before .if2 .taken) in
-    cc
-
 bad-sweep-requires : tie.Need-bad-sweep-requires
-unfolding allBelow
-bad-sweep-requires c κs =
-    let s = c .before .before .before .before in
-    omega (arith, s .pre .1, long 47 0 2 refl (s .args .k) (search needs) (search needs))
+bad-sweep-requires c κs = let start = c .before .before .before .before in omega (arith, fits-from 43 (start .args .from) (c .before .match .keys1) (start .pre .1) tt)
+
+bad-sweep-requires-2 : tie.Need-bad-sweep-requires-2
+bad-sweep-requires-2 c κs = let start = c .before .before .before .before in omega (arith, fits-from 43 (start .args .from) (c .before .match .keys2) (start .pre .1) tt)
 
 bad-side-requires-2 : tie.Need-bad-side-requires-2
-unfolding allBelow
 bad-side-requires-2 c κs =
-    let s = c .before .before .before .before .before .before in
-    omega (arith, s .pre .1, long 19 0 4 refl (s .args .k) (search needs) (search needs))
+    let start = c .before .before .before in
+    let three = last-inbound (start .pre .0) (c .match .rest .0 .0 .1) (c .match .rest .0 .1) (c .match .rest .1) in
+    omega (arith, fits-from 16 (start .args .from) three (start .pre .1) tt)
+
+returns : tie.Need-returns
+unfolding firstBadPlace badPlace
+returns c =
+    let p = c .before .before .before .before in
+    rw (p .match .keys1, c .earlier2 .ensures, c .before .earlier .ensures)
+    (rw (c .before .before .bad-sweep .ensures, c .before .before .before .bad-side .ensures, p .before .bad-token .ensures) (simp (place-earlier, or-none)))
+
+returns-2 : tie.Need-returns-2
+unfolding firstBadPlace badPlace
+returns-2 c =
+    let p = c .before .before .before .before in
+    rw (p .match .keys2, c .earlier4 .ensures, c .before .earlier3 .ensures)
+    (rw (c .before .before .bad-sweep2 .ensures, c .before .before .before .bad-token2 .ensures, p .before .bad-token .ensures) (simp (place-earlier, or-none)))
 
 returns-3 : tie.Need-returns-3
-returns-3 c =
-    let e = enter-order-place (c .before .before .before .before .before .before .before .before .before .args .k) (c .before .before .before .before .before .before .before .before .before .args .s .now) (c .before .before .before .if3 .taken) in
-    cc
-
-bad-token-requires-2 : tie.Need-bad-token-requires-2
-unfolding allBelow
-bad-token-requires-2 c κs =
-    let s = c .before .before .before .before .before .before in
-    omega (arith, s .pre .1, long 47 0 2 refl (s .args .k) (search needs) (search needs))
+unfolding firstBadPlace badPlace
+returns-3 c = rw (c .match .keys3, c .before .bad-token .ensures) (simp or-none)
 
 returns-4 : tie.Need-returns-4
+unfolding firstBadPlace badPlace
 returns-4 c =
-    let s = c .before .before .before .before .before .before .before .before .before in
-    let e = replace-order-place (s .args .k) (s .args .s .now) (omega arith) in
-    cc
+    let p = c .before .before in
+    rw (last-inbound (p .before .before .before .pre .0) (p .match .rest .0 .0 .1) (p .match .rest .0 .1) (p .match .rest .1), c .earlier5 .ensures)
+    (rw (c .before .bad-side2 .ensures, p .before .bad-token .ensures) (simp (place-earlier, or-none)))
 
 pub bad-inbound-spec : {M : Type 1} → statement M
 bad-inbound-spec =
-    tie.close
-    (tie.spec bad-token-requires returns bad-side-requires unasked returns-2 bad-sweep-requires bad-side-requires-2 unasked unasked
-    returns-3 bad-token-requires-2 unasked unasked returns-4)
+    tie.close (tie.spec (λ c. search needs)
+    (λ c κs. let start = c .before in omega (arith, inbound-long (start .args .k) (start .pre .0), start .pre .1)) (λ c. search needs)
+    (λ c κs. let start = c .before .before .before in omega (arith, fits-from 16 (start .args .from) (c .match .keys1) (start .pre .1) tt))
+    (λ c. search needs) bad-sweep-requires unasked unasked (λ c. search needs)
+    (λ c κs. let start = c .before .before .before in omega (arith, fits-from 29 (start .args .from) (c .match .keys2) (start .pre .1) tt))
+    (λ c. search needs) bad-sweep-requires-2 unasked unasked (λ c. search needs) bad-side-requires-2 unasked returns returns-2 returns-3
+    returns-4)

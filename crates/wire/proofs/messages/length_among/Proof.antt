@@ -1,10 +1,6 @@
 -- The loop's invariant: the length looked for is that among the messages not yet passed. The measure is how many they are.
 -- Assumes nothing.
-use mathlib.Core.Path.{_≡_, refl, sym, _∙_}
-use Prim.Native.Nat.{_-_, _≤_}
-use borrow.Author.Needs.{needs}
-use borrow.Author.Tests.{eq-eqb, ne-eqb}
-use lib.ListN.{take, drop}
+use Rattle.octets.proofs.Proving.{_-_, _∙_, _≡_, _≤_, drop, eq-eqb, ne-eqb, needs, refl, sym, take}
 use Rattle.wire.specs.Messages.{messages, lengthFor}
 use Rattle.wire.proofs.Numbered.{among-next, among-end}
 use Rattle.wire.proofs.messages.length_among.Statement.{statement}

@@ -1,7 +1,5 @@
 -- The messages before number 4 are the inbound ones, those from it on the outbound ones. Assumes nothing.
-use mathlib.Core.Path.{sym, ap, _∙_}
-use mathlib.Core.Bool.{Bool}
-use borrow.Author.Needs.{needs}
+use Rattle.octets.proofs.Proving.{Bool, _∙_, ap, needs, sym}
 use Rattle.wire.specs.Messages.{messageLength}
 use Rattle.wire.proofs.messages.message_length.Statement.{statement}
 use Rattle.wire.proofs.messages.message_length.Tie as tie

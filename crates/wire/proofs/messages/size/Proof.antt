@@ -1,15 +1,14 @@
 -- The table's rule: each entry is its layout's length. Assumes nothing.
-use native.Mathlib.Omega.{arith}
-use borrow.Author.Needs.{needs}
-use Rattle.wire.proofs.Numbered.{length-fits, length-is}
+use Rattle.octets.proofs.Proving.{arith, needs, sym}
+use Rattle.wire.proofs.Numbered.{length-fits, length-is, no-length}
 use Rattle.wire.proofs.messages.size.Statement.{statement}
 use Rattle.wire.proofs.messages.size.Tie as tie
 
-cast-result : tie.Need-cast-result
-cast-result c = omega (arith, length-fits (c .args .k) (c .pre))
-
 returns : tie.Need-returns
-returns c = length-is (c .args .k) (c .pre)
+returns c = length-is (c .before .args .k) (c .if1 .taken)
+
+returns-2 : tie.Need-returns-2
+returns-2 c = sym (no-length (c .before .args .k) (c .if1 .left))
 
 pub size-spec : {M : Type 1} → statement M
-size-spec = tie.close (tie.spec (search needs) cast-result returns)
+size-spec = tie.close (tie.spec (search needs) (λ c. omega (arith, length-fits (c .before .args .k) (c .if1 .taken))) returns returns-2)

@@ -1,12 +1,6 @@
 -- The loop's invariant: the first bad byte of the token is the first bad byte of what is left of it. The measure is what is left.
 -- Assumes nothing.
-use Rattle.octets.proofs.Needs.{unasked}
-use mathlib.Core.Path.{_≡_, sym, ap, _∙_}
-use mathlib.Core.Bool.{true, false}
-use Prim.Native.Nat.{ℕ, _+_, _-_, _≤_}
-use native.Mathlib.Omega.{arith}
-use lib.ListN.{getD}
-use borrow.Author.Needs.{needs}
+use Rattle.octets.proofs.Proving.{_+_, _-_, _∙_, _≡_, _≤_, ap, arith, false, getD, needs, sym, true, unasked, ℕ}
 use Rattle.octets.specs.Bytes.{part}
 use Rattle.wire.specs.Text.{tokenByte}
 use Rattle.wire.specs.Layout.{place, badPlace, badTokenByte}

@@ -1,11 +1,6 @@
 -- The loop's invariant: the text is shaped where what was seen is and the rest may follow it. The measure is what is left of the length.
 -- Assumes nothing.
-use Rattle.octets.proofs.Needs.{unasked}
-use mathlib.Core.Path.{_≡_, sym, ap, _∙_}
-use mathlib.Core.Bool.{Bool, false, _&&_}
-use Prim.Native.Nat.{_-_}
-use borrow.Author.Needs.{needs}
-use lib.ListN.{length, drop}
+use Rattle.octets.proofs.Proving.{Bool, _&&_, _-_, _∙_, _≡_, ap, drop, false, length, needs, sym, unasked}
 use Rattle.wire.specs.Text.{shaped}
 use Rattle.wire.proofs.Shapes.{rest, shaped-none, shaped-first, shaped-next, shaped-end}
 use Rattle.wire.proofs.text.is_shaped.Statement.{statement}
@@ -27,7 +22,8 @@ loop-holds c =
 
 loop-again : tie.Need-loop-again Inv-loop μ-loop
 loop-again c =
-    let a = c .before .before .before .before .before .before .before .before .before .args in
+    let p = c .before .before .before .before in
+    let a = p .before .before .before .before .before .args in
     let l = c .before .before .before .before .loop in
     rw (c .is-capital2 .ensures) (l .inv ∙ shaped-next (a .s .now) (l .i) (l .ok) (l .blank) (search needs))
 

@@ -1,6 +1,5 @@
 -- A difference of numbers that does not go below 0. Assumes nothing.
-use native.Mathlib.Nat.{sub-eq-zero-of-le}
-use borrow.Author.Needs.{needs}
+use Rattle.octets.proofs.Proving.{needs, sub-eq-zero-of-le}
 use Rattle.wire.proofs.shares.Total.less.Statement.{statement}
 use Rattle.wire.proofs.shares.Total.less.Tie as tie
 

@@ -1,0 +1,21 @@
+-- The numbers, the used records against the length, and the firms. Assumes nothing.
+use Rattle.octets.proofs.Proving.{[], _∷_, leb, needs, unasked}
+use Rattle.octets.proofs.Below.{in-row}
+use Rattle.wire.specs.Layout.{noBadPlace}
+use Rattle.header.specs.Header.{headerOf, headerLayout}
+use Rattle.header.specs.Firms.{firmsShaped, restBlank}
+use Rattle.header.specs.Sound.{headerSound}
+use Rattle.header.proofs.sound.header_sound.Statement.{statement}
+use Rattle.header.proofs.sound.header_sound.Tie as tie
+
+returns : tie.Need-returns
+unfolding headerSound
+returns c =
+    let numbers = c .before .before .before in
+    let h = numbers .before .before .before in
+    let s = h .before .before .args .s .now in
+    rw (c .rest-blank .ensures, c .before .firms-shaped .ensures, numbers .numbers-good .ensures, h .header-of .ensures)
+    (in-row (noBadPlace headerLayout s) (leb (headerOf s .used) (h .before .before .args .records) ∷ firmsShaped (headerOf s .firms) (headerOf s .count) ∷ restBlank (headerOf s .firms) (headerOf s .count) ∷ []))
+
+pub header-sound-spec : {M : Type 1} → statement M
+header-sound-spec = tie.close (tie.spec (search needs) (search needs) (λ c κs. search needs) (search needs) unasked unasked returns)

@@ -1,0 +1,218 @@
+-- What is known of an entry that comes to something done: it is legal, a record and a reference are left where they are needed, and its plan
+-- keeps what the rules keep. Assumes nothing.
+use Rattle.octets.proofs.Proving.{Bool, List, _&&_, _+_, _<_, _||_, _∙_, _∷_, _≡_, _≤_, ap, arith, drop, drop-drop, false, false≢true, guard, le-leb, length, length-drop, ltb, ltb-true, not, not-false, or-left, or-right, refl, replicate, subst, sym, take, true, ℕ}
+use Rattle.octets.specs.Choice.{_⇒_⨾_, allBelow}
+use Rattle.octets.specs.Bytes.{part}
+use Rattle.octets.proofs.Laws.{length-part}
+use Rattle.octets.proofs.Below.{both}
+use Rattle.answers.specs.Answer.{isDone}
+use Rattle.answers.proofs.Laws.{is-done}
+use Rattle.wire.specs.Limits.{tokenSize, stampEnd}
+use Rattle.wire.specs.Letters.{space}
+use Rattle.wire.specs.Text.{tokenByte, capital, small, digit}
+use Rattle.wire.specs.Layout.{Field, stampAt, tokenAt, firstBadPlace, badPlace, isNone, noBadPlace}
+use Rattle.wire.proofs.NoneBad.{legalToken, none-of-both, none-unless, token-bytes}
+use Rattle.table.specs.Table.{header, usedIn, placeOf, orderFrom, orderNamed}
+use Rattle.table.proofs.Soundness.{Sound}
+use Rattle.table.proofs.Finding.{found}
+use Rattle.tape.specs.Behind.{behindOf, judgedFields}
+use Rattle.tape.specs.Kinds.{kindOf}
+use Rattle.tape.specs.Entries.{wellFormed, allLegal, badPlaceOf, entryAnswer, namesOrder, stampOf, tokenOf, messageIn, enterOf, replaceOf, cancelOf, modifyOf, executionOf, bookCancelOf, selfMatchOf, priorityOf, systemOf}
+use Rattle.tape.proofs.Formed.{formed, long-as, judged}
+use Rattle.inbound.specs.Inbound.{enterOrderOf, replaceOrderOf}
+use Rattle.rules.specs.Plan.{refused}
+use Rattle.rules.specs.Enter.{enterRule}
+use Rattle.rules.specs.Replace.{replaceRule}
+use Rattle.host.specs.Step.{namedPlace, decideBy, decide, noRecordFree, noReferenceLeft, withinLimits, comesTo}
+use Rattle.host.proofs.Offers.{judged-good}
+use Rattle.laws.specs.Blocked.{isBlocked}
+use Rattle.laws.proofs.Types.{Answer, Done, Full, Malformed, TooEarly, Order, Header, Decision, Kind, Enters, Replaces, Cancels, Modifies, Executes, BookCancels, SelfMatches, Prioritises, TurnsLate, EndsCross, TellsDay, Unknown}
+use Rattle.laws.proofs.Shapes.{Keeps, refused-keeps}
+use Rattle.laws.proofs.Rules.{Sane, enter-keeps, replace-keeps, cancel-keeps, modify-keeps, execution-keeps, book-cancel-keeps, self-match-keeps, priority-keeps, late-keeps, cross-done-keeps, system-keeps}
+use Rattle.laws.proofs.Given.{sane-from, live-there, from-is, holds}
+
+-- ---- the guards that were passed
+
+pub record Passed (t s : List ℕ) : Type 0 where
+  pub legal : entryAnswer s ≡ Done
+  pub record-left : noRecordFree t (decide t s .plan) ≡ false
+  pub reference-left : noReferenceLeft t (decide t s .plan) ≡ false
+  pub is : comesTo t s ≡ decide t s
+
+-- what an entry comes to, by what was asked on the way
+abbrev comesBy : Answer → Decision → Bool → Bool → Bool → Decision
+comesBy a d legal early full = not legal ⇒ refused a ⨾ early ⇒ refused TooEarly ⨾ full ⇒ refused Full ⨾ d
+
+passed-by : (a : Answer) (d : Decision) (legal early full : Bool) → isDone a ≡ legal → isDone (comesBy a d legal early full .answer) ≡ true
+    → (legal ≡ true) × ((full ≡ false) × ((isDone (d .answer) ≡ true) × (comesBy a d legal early full ≡ d)))
+unfolding isDone refused
+passed-by a d false early full q h = absurd (false≢true (sym q ∙ h))
+passed-by a d true true full q h = absurd (false≢true h)
+passed-by a d true false true q h = absurd (false≢true h)
+passed-by a d true false false q h = (refl, (refl, (h, refl)))
+
+-- what is done is refused for neither reason
+neither : (done a b : Bool) → done ≡ true → (done && (a || b)) ≡ false → (a ≡ false) × (b ≡ false)
+neither true a b d h = (or-left a b h, or-right a b h)
+neither false a b d h = absurd (false≢true d)
+
+pub passed : (t s : List ℕ) → isDone (comesTo t s .answer) ≡ true → Passed t s
+unfolding comesTo withinLimits
+passed t s h =
+    let d = decide t s in
+    let p = passed-by (entryAnswer s) d (isDone (entryAnswer s)) (ltb (stampOf s) (header t .last)) _ refl h in
+    let none = neither (isDone (d .answer)) (noRecordFree t (d .plan)) (noReferenceLeft t (d .plan)) (p .1 .1 .0) (p .1 .0) in
+    record { legal = is-done (entryAnswer s) (p .0); record-left = none .0; reference-left = none .1; is = p .1 .1 .1 }
+
+-- ---- a legal entry's stamp and tokens
+
+-- a field that is judged, and those behind it
+field-good : (f : Field) (fs : List Field) (s : List ℕ) → noBadPlace (f ∷ fs) s ≡ true
+    → (isNone (badPlace (f .rule) (f .at) (part s (f .at) (f .width))) ≡ true) × (noBadPlace fs s ≡ true)
+unfolding noBadPlace firstBadPlace
+field-good f fs s h =
+    let here = badPlace (f .rule) (f .at) (part s (f .at) (f .width)) in
+    both (isNone here) (isNone (firstBadPlace fs s)) (sym (none-of-both here (firstBadPlace fs s)) ∙ h)
+
+module _ (s : List ℕ) (legal : entryAnswer s ≡ Done) where
+  w : wellFormed s ≡ true
+  w = judged-good s legal .0
+
+  fields-good : (isNone (badPlace (stampAt 1 .rule) 1 (part s 1 8)) ≡ true) × (noBadPlace (judgedFields (behindOf (kindOf s))) s ≡ true)
+  unfolding allLegal badPlaceOf noBadPlace
+  fields-good =
+      field-good (stampAt 1) (judgedFields (behindOf (kindOf s))) s
+      (ap isNone (sym (judged (kindOf s) s (formed s w .known))) ∙ judged-good s legal .1)
+
+  pub stamp-legal : stampOf s < stampEnd
+  unfolding badPlace stampOf
+  stamp-legal = ltb-true _ _ (sym (none-unless _ 1) ∙ fields-good .0)
+
+  behind-good : (k : Kind) → kindOf s ≡ k → noBadPlace (judgedFields (behindOf k)) s ≡ true
+  behind-good k e = subst (λ (x : Kind). noBadPlace (judgedFields (behindOf x)) s ≡ true) e (fields-good .1)
+
+  entered-legal : kindOf s ≡ Enters → legalToken (tokenOf s) ≡ true
+  unfolding badPlace tokenOf
+  entered-legal e = sym (token-bytes 9 (part s 9 14)) ∙ field-good (tokenAt 9) _ s (behind-good Enters e) .0
+
+  replaced-legal : kindOf s ≡ Replaces → legalToken (part s 23 14) ≡ true
+  unfolding badPlace
+  replaced-legal e =
+      sym (token-bytes 23 (part s 23 14)) ∙ field-good (tokenAt 23) _ s (field-good (tokenAt 9) _ s (behind-good Replaces e) .1) .0
+
+-- ---- what the rules keep, of the order that the entry names and the token that it may use up
+
+-- a part of the message is a part of the entry, eight bytes on
+part-in : (s : List ℕ) (at n : ℕ) → part (drop 8 s) at n ≡ part s (8 + at) n
+part-in s at n = ap (take n) (drop-drop at 8 s)
+
+pub record NewToken (token : List ℕ) : Type 0 where
+  pub long : length token ≡ tokenSize
+  pub legal : legalToken token ≡ true
+
+-- stands for the token of an entry that uses up none
+blank : List ℕ
+blank = replicate tokenSize space
+
+blank-new : NewToken blank
+unfolding blank allBelow tokenByte capital small digit
+blank-new = record { long = refl; legal = refl }
+
+-- of the order that the table t has under that token
+abbrev pub Kept : List ℕ → Order → Decision → Type 0
+Kept t o d = (token : List ℕ) × (NewToken token × Keeps o (orderNamed t token) token d)
+
+module _ (t s : List ℕ) (ok : Sound t) (legal : entryAnswer s ≡ Done) where
+  abbrev h : Header
+  h = header t
+
+  abbrev pub named : Order
+  named = orderFrom t (namedPlace t s)
+
+  sane : Sane named
+  sane = sane-from t ok (namedPlace t s)
+
+  -- an entry with a token names it
+  named-place : tokenSize + 9 ≤ length s → namedPlace t s ≡ placeOf t (tokenOf s)
+  unfolding namedPlace namesOrder
+  named-place l = rw (le-leb _ _ l)
+
+  abbrev other : {d : Decision} → Keeps named (orderNamed t blank) blank d → Kept t named d
+  other k = (blank, (blank-new, k))
+
+  enter-kept : kindOf s ≡ Enters → Kept t named (enterRule h named (enterOf s))
+  unfolding enterOf enterOrderOf messageIn tokenOf orderNamed
+  enter-kept e =
+      let n = long-as s (w s legal) refl e in
+      let l : length (drop 8 s) ≡ 48 = length-drop 8 s ∙ omega (arith, n) in
+      let at = named-place (omega (arith, n)) in
+      let here : part (drop 8 s) 1 14 ≡ part s 9 14 = part-in s 1 14 in (
+        tokenOf s,
+        (
+          record { long = length-part s 9 14 (omega (arith, n)); legal = entered-legal s legal e },
+          subst (λ (i : ℕ). Keeps named (orderFrom t i) (part s 9 14) (enterRule h named (enterOf s))) at
+              (subst (λ (token : List ℕ). Keeps named named token (enterRule h named (enterOf s))) here
+              (enter-keeps h (enterOf s) named (holds t ok)
+              (record {
+                token = length-part (drop 8 s) 1 14 (omega (arith, l));
+                stock = length-part (drop 8 s) 20 8 (omega (arith, l));
+                firm = length-part (drop 8 s) 36 4 (omega (arith, l));
+              }))),
+        ),
+      )
+
+  replace-kept : kindOf s ≡ Replaces → Kept t named (replaceRule h named (orderNamed t (replaceOf s .replacement)) (replaceOf s))
+  unfolding replaceOf replaceOrderOf messageIn tokenOf
+  replace-kept e =
+      let n = long-as s (w s legal) refl e in
+      let l : length (drop 8 s) ≡ 47 = length-drop 8 s ∙ omega (arith, n) in
+      let at = named-place (omega (arith, n)) in
+      let long = length-part (drop 8 s) 15 14 (omega (arith, l)) in (
+        replaceOf s .replacement,
+        (
+          record { long = long; legal = ap legalToken (part-in s 15 14) ∙ replaced-legal s legal e },
+          replace-keeps h named (orderNamed t (replaceOf s .replacement)) (replaceOf s) (holds t ok) sane long
+              (λ alive.
+              let there = subst (λ (i : ℕ). i < usedIn t) at (live-there t (namedPlace t s) alive) in
+              part-in s 1 14
+              ∙ sym (found t (tokenOf s) there .has)
+              ∙ ap (λ (q : Order). q .token) (sym (from-is t (placeOf t (tokenOf s)) there))
+              ∙ ap (λ (i : ℕ). orderFrom t i .token) (sym at)),
+        ),
+      )
+
+  by-kind : (k : Kind) → kindOf s ≡ k → Kept t named (decideBy k h named (orderNamed t (replaceOf s .replacement)) s)
+  unfolding decideBy
+  by-kind Enters e = enter-kept e
+  by-kind Replaces e = replace-kept e
+  by-kind Cancels e = other (cancel-keeps named (orderNamed t blank) blank sane (cancelOf s))
+  by-kind Modifies e = other (modify-keeps named (orderNamed t blank) blank sane h (modifyOf s))
+  by-kind Executes e = other (execution-keeps named (orderNamed t blank) blank sane h (executionOf s))
+  by-kind BookCancels e = other (book-cancel-keeps named (orderNamed t blank) blank sane (bookCancelOf s))
+  by-kind SelfMatches e = other (self-match-keeps named (orderNamed t blank) blank sane h (selfMatchOf s))
+  by-kind Prioritises e = other (priority-keeps named (orderNamed t blank) blank sane h (priorityOf s))
+  by-kind TurnsLate e = other (late-keeps named (orderNamed t blank) blank sane h)
+  by-kind EndsCross e = other (cross-done-keeps named (orderNamed t blank) blank sane)
+  by-kind TellsDay e = other (system-keeps h (systemOf s) named (orderNamed t blank) blank)
+  by-kind Unknown e = other (refused-keeps Malformed refl)
+
+  pub decide-keeps : Kept t named (decide t s)
+  unfolding decide
+  decide-keeps = by-kind (kindOf s) refl
+
+-- ---- what an entry comes to is never 'blocked'
+
+pub unblocked : (t s : List ℕ) → Sound t → isBlocked (comesTo t s .answer) ≡ false
+unfolding comesTo withinLimits refused entryAnswer
+unblocked t s ok =
+    guard Other (not (isDone (entryAnswer s))) (λ _. judged-unblocked) λ legal.
+    guard Other (ltb (stampOf s) (header t .last)) (λ _. refl) λ _.
+    guard Other (isDone (decide t s .answer) && (noRecordFree t (decide t s .plan) || noReferenceLeft t (decide t s .plan))) (λ _. refl) λ _.
+    decide-keeps t s ok (is-done (entryAnswer s) (not-false _ legal)) .1 .1 .unblocked
+  where
+    Other : Decision → Type 0
+    Other d = isBlocked (d .answer) ≡ false
+
+    judged-unblocked : isBlocked (entryAnswer s) ≡ false
+    judged-unblocked = guard (λ (a : Answer). isBlocked a ≡ false) (not (wellFormed s)) (λ _. refl) λ _.
+        guard (λ (a : Answer). isBlocked a ≡ false) (not (allLegal s)) (λ _. refl) λ _. refl

@@ -1,0 +1,12 @@
+pub mod Types
+pub mod Standing
+pub mod Shapes
+pub mod Tests
+pub mod Rules
+pub mod Clipped
+pub mod Given
+pub mod Comes
+pub mod Sounds
+pub mod Records
+pub mod Sent
+pub mod Steps

@@ -1,0 +1,130 @@
+-- Which records a done entry leaves: the changed order in its own, the added one behind the used ones, and every other as it was. Seen are
+-- the four things of an order by which chains are followed; they fit their widths, so storing wraps none of them. Assumes nothing.
+use Rattle.octets.proofs.Proving.{Bool, List, _+_, _<_, _∙_, _≡_, _≢_, _≤_, _⊎_, ap, arith, false, inl, inr, length, refl, sym, true, ℕ}
+use Rattle.answers.specs.Answer.{isDone}
+use Rattle.wire.specs.Letters.{rejectedToken}
+use Rattle.header.specs.Limits.{headerSize}
+use Rattle.orders.specs.Limits.{mostShares}
+use Rattle.orders.specs.Counts.{gone, newCounts}
+use Rattle.orders.specs.Order.{rejectedOrder, isUsed}
+use Rattle.orders.proofs.Standing.{Live, Dead, OrderGood}
+use Rattle.table.specs.Table.{HasRecord, header, orderAt, sound, storeOrder}
+use Rattle.table.proofs.Stored.{order-read-back, other-orders, header-read-back, orders-stay}
+use Rattle.tape.specs.Entries.{stampOf}
+use Rattle.host.specs.Step.{oneIf, storeIf, headerAfter, committed, comesTo}
+use Rattle.laws.proofs.Types.{Plan, Order, Header}
+use Rattle.laws.proofs.Shapes.{change-of, addition-of}
+use Rattle.laws.proofs.Clipped.{clip-same, clipped, clippedCounts, stored-clipped, whole-clipped}
+use Rattle.laws.proofs.Sounds.{Fit, S, p, place, one, two, kept₂, after, whole, changed-fit, added-fit, there-in-one, K}
+
+-- what a chain is followed by
+pub record Face : Type 0 where
+  pub state : ℕ
+  pub token : List ℕ
+  pub executed : ℕ
+  pub previous : List ℕ
+
+abbrev pub face : Order → Face
+face o = record { state = o .state; token = o .token; executed = o .shares .executed .0; previous = o .details .previous }
+
+abbrev pub faceAt : List ℕ → ℕ → Face
+faceAt t i = face (orderAt t i)
+
+-- ---- one order stored
+
+face-clipped : (o : Order) → OrderGood o → face (clipped o) ≡ face o
+unfolding clipped clippedCounts gone rejectedOrder newCounts
+face-clipped o good = by (good .standing)
+  where
+    fits : o .state < 256 → o .shares .executed .0 ≤ mostShares → face (clipped o) ≡ face o
+    fits s e = rw (clip-same 1 (o .state) (omega arith), clip-same 4 (o .shares .executed .0) (omega arith))
+
+    by : Live o ⊎ (Dead o ⊎ (o ≡ rejectedOrder (o .token))) → face (clipped o) ≡ face o
+    by (inl l) = fits (omega (arith, l .0)) (omega (arith, l .1, l .2))
+    by (inr (inl d)) = fits (omega (arith, d .0)) (omega (arith, d .1, d .2))
+    by (inr (inr r)) =
+        let state : o .state ≡ rejectedToken = ap (λ (q : Order). q .state) r in
+        let executed : o .shares .executed .0 ≡ 0 = ap (λ (q : Order). q .shares .executed .0) r in
+        fits (omega (arith, state)) (omega (arith, executed))
+
+module _ (t : List ℕ) (i : ℕ) (o : Order) (there : HasRecord t i) (fit : Fit o) where
+  pub stored-face : faceAt (storeOrder t i o) i ≡ face o
+  stored-face =
+      ap (λ (u : List ℕ). faceAt u i) (sym (stored-clipped t i o))
+      ∙ ap face (order-read-back t i (clipped o) there (whole-clipped o (fit .shaped)))
+      ∙ face-clipped o (fit .good)
+
+  pub other-faces : (j : ℕ) → j ≢ i → faceAt (storeOrder t i o) j ≡ faceAt t j
+  other-faces j apart =
+      ap (λ (u : List ℕ). faceAt u j) (sym (stored-clipped t i o))
+      ∙ ap face (other-orders t i (clipped o) there (whole-clipped o (fit .shaped)) j apart)
+
+-- ---- a plan written down
+
+module _ (t s : List ℕ) (ok : sound t ≡ true) (done : isDone (comesTo t s .answer) ≡ true) where
+  abbrev plan : Plan
+  plan = p t s ok done
+
+  abbrev mid : List ℕ
+  mid = one t s ok done
+
+  abbrev end : List ℕ
+  end = two t s ok done
+
+  abbrev used : ℕ
+  used = header t .used
+
+  abbrev at : ℕ
+  at = place t s ok done
+
+  -- the table afterwards
+  abbrev pub left : List ℕ
+  left = committed t at (stampOf s) plan
+
+  long : headerSize ≤ length end
+  long = omega (arith, kept₂ t s ok done .long, S t s ok done .size .long)
+
+  pub left-used : header left .used ≡ used + oneIf (isUsed (plan .added))
+  unfolding committed headerAfter
+  left-used = ap (λ (q : Header). q .used) (header-read-back end (after t s ok done) long (whole t s ok done))
+
+  left-faces : (i : ℕ) → faceAt left i ≡ faceAt end i
+  unfolding committed headerAfter
+  left-faces i = ap face (orders-stay end (after t s ok done) long (whole t s ok done) i)
+
+  -- the named order's record is the only one that the first store touches
+  pub changed-face : isUsed (plan .changed) ≡ true → faceAt mid at ≡ face (plan .changed)
+  unfolding storeIf
+  changed-face u =
+      let f = changed-fit t s ok done (change-of (K t s ok done .1 .1 .shape)) u in
+      rw u (stored-face t at (plan .changed) (f .1) (f .0))
+
+  pub unchanged-face : (i : ℕ) → i ≢ at → faceAt mid i ≡ faceAt t i
+  unfolding storeIf
+  unchanged-face i apart = by (isUsed (plan .changed)) refl
+    where
+      by : (b : Bool) → isUsed (plan .changed) ≡ b → faceAt mid i ≡ faceAt t i
+      by true u =
+          let f = changed-fit t s ok done (change-of (K t s ok done .1 .1 .shape)) u in
+          rw u (other-faces t at (plan .changed) (f .1) (f .0) i apart)
+      by false u = rw u
+
+  pub unchanged-faces : isUsed (plan .changed) ≡ false → (i : ℕ) → faceAt mid i ≡ faceAt t i
+  unfolding storeIf
+  unchanged-faces u i = rw u
+
+  -- and the one behind the used ones the only one that the second touches
+  fit : isUsed (plan .added) ≡ true → Fit (plan .added)
+  fit u = added-fit (plan .added) (K t s ok done .1 .0) (addition-of (K t s ok done .1 .1 .shape)) u
+
+  pub added-face : isUsed (plan .added) ≡ true → faceAt left used ≡ face (plan .added)
+  unfolding storeIf
+  added-face u = left-faces used ∙ rw u (stored-face mid used (plan .added) (there-in-one t s ok done u) (fit u))
+
+  pub earlier-face : (i : ℕ) → i < used → faceAt left i ≡ faceAt mid i
+  unfolding storeIf
+  earlier-face i l = left-faces i ∙ by (isUsed (plan .added)) refl
+    where
+      by : (b : Bool) → isUsed (plan .added) ≡ b → faceAt end i ≡ faceAt mid i
+      by true u = rw u (other-faces mid used (plan .added) (there-in-one t s ok done u) (fit u) i (λ e. omega (arith, e)))
+      by false u = rw u

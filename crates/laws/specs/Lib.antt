@@ -1,0 +1,3 @@
+pub mod Blocked
+pub mod Messages
+pub mod Records

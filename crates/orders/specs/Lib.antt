@@ -1,0 +1,7 @@
+pub mod Limits
+pub mod Counts
+pub mod Flags
+pub mod Order
+pub mod Sound
+pub mod Whole
+pub mod Runs

@@ -1,0 +1,6 @@
+-- Every promise settles its result: two results that a public function's contract allows are equal. Assumes nothing.
+use Rattle.octets.proofs.Settles.{Settled, SettledBoth, _and_, _also_, settled, settled-both}
+use Rattle.scales.proofs as scales
+
+pub values-unique : Settled scales.pq_sound.Reads.Post and SettledBoth scales.pq_put.Reads.Post
+values-unique = (λ κs a. settled) also (λ κs a. settled-both)

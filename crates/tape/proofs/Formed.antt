@@ -1,0 +1,122 @@
+-- What judging knows of an entry whose kind is known: how long it is, and where its first bad place is looked for. Assumes nothing.
+use Rattle.octets.proofs.Proving.{Bool, List, Option, [], _&&_, _∙_, _∷_, _≡_, _≤_, ap, ap₂, arith, eqb, eqb-false, eqb-true, false, false≢true, length, none, not, not-true, refl, some, sym, true, ℕ}
+use Rattle.octets.specs.Bytes.{part}
+use Rattle.octets.specs.Choice.{firstOf_, _⇒_⨾_}
+use Rattle.octets.proofs.Below.{both}
+use Rattle.answers.specs.declared.Answer.the-variants.{Malformed, BadField, Done}
+use Rattle.wire.specs.Layout.{Field, stampAt, place, badPlace, firstBadPlace, orElse, isNone, earlierOf}
+use Rattle.wire.specs.declared.places.Place.{Place}
+use Rattle.tape.specs.Kinds.{Kind, Enters, Replaces, Cancels, Modifies, Executes, BookCancels, SelfMatches, Prioritises, TurnsLate, EndsCross, TellsDay, Unknown, kindOf, layoutOf}
+use Rattle.tape.specs.Entries.{wellFormed, badPlaceOf, allLegal, entryAnswer}
+use Rattle.tape.specs.Behind.{behindOf, judgedFields, Within, answerFor}
+
+-- ---- lengths
+
+-- a well-formed entry is as long as its kind says, and its kind is one
+pub record Formed (s : List ℕ) (kind : Kind) : Type 0 where
+  pub long : length s ≡ layoutOf kind .size
+  pub known : layoutOf kind .size ≡ 0 → ⊥
+
+pub formed : (s : List ℕ) → wellFormed s ≡ true → Formed s (kindOf s)
+unfolding wellFormed
+formed s w =
+    let size = layoutOf (kindOf s) .size in
+    let b = both (not (eqb size 0)) (eqb (length s) size) w in
+    record { long = eqb-true (length s) size (b .1); known = eqb-false size 0 (not-true (eqb size 0) (b .0)) }
+
+-- the same for a kind that was asked for and told
+pub long-as : (s : List ℕ) → wellFormed s ≡ true → {r kind : Kind} → r ≡ kindOf s → r ≡ kind → length s ≡ layoutOf kind .size
+long-as s w promise told = formed s w .long ∙ ap (λ (k : Kind). layoutOf k .size) (sym promise ∙ told)
+
+-- the judged fields of a kind lie in an entry of its length
+pub within : (kind : Kind) → Within (behindOf kind) (layoutOf kind .size)
+within Enters = (omega arith, omega arith)
+within Replaces = (omega arith, omega arith)
+within Cancels = (omega arith, omega arith)
+within Modifies = (omega arith, omega arith)
+within Executes = (omega arith, omega arith)
+within BookCancels = (omega arith, omega arith)
+within SelfMatches = (omega arith, omega arith)
+within Prioritises = omega arith
+within TurnsLate = omega arith
+within EndsCross = omega arith
+within TellsDay = omega arith
+within Unknown = tt
+
+-- every kind has room for a stamp
+pub stamped : (kind : Kind) → (layoutOf kind .size ≡ 0 → ⊥) → 9 ≤ layoutOf kind .size
+stamped Enters h = omega arith
+stamped Replaces h = omega arith
+stamped Cancels h = omega arith
+stamped Modifies h = omega arith
+stamped Executes h = omega arith
+stamped BookCancels h = omega arith
+stamped SelfMatches h = omega arith
+stamped Prioritises h = omega arith
+stamped TurnsLate h = omega arith
+stamped EndsCross h = omega arith
+stamped TellsDay h = omega arith
+stamped Unknown h = absurd (h refl)
+
+pub stamp-fits : (s : List ℕ) → wellFormed s ≡ true → 9 ≤ length s
+stamp-fits s w = let f = formed s w in omega (arith, f .long, stamped (kindOf s) (f .known))
+
+-- ---- places
+
+-- a stamp, and then the judged fields: all that a kind's layout judges
+pub judged : (kind : Kind) (s : List ℕ) → (layoutOf kind .size ≡ 0 → ⊥)
+    → firstBadPlace (layoutOf kind .fields) s ≡ firstBadPlace (stampAt 1 ∷ judgedFields (behindOf kind)) s
+unfolding firstBadPlace badPlace
+judged Enters s h = refl
+judged Replaces s h = refl
+judged Cancels s h = refl
+judged Modifies s h = refl
+judged Executes s h = refl
+judged BookCancels s h = refl
+judged SelfMatches s h = refl
+judged Prioritises s h = refl
+judged TurnsLate s h = refl
+judged EndsCross s h = refl
+judged TellsDay s h = refl
+judged Unknown s h = absurd (h refl)
+
+-- what looking at one field finds
+abbrev pub Finds : Field → List ℕ → Place → Type 0
+Finds f s r = r ≡ place (badPlace (f .rule) (f .at) (part s (f .at) (f .width)))
+
+then : (a b : Option ℕ) → earlierOf (place a) (place b) ≡ place (orElse a b)
+then none b = refl
+then (some at) b = refl
+
+-- a field, and what was found behind it
+pub behind : (f : Field) (fs : List Field) (s : List ℕ) {r p q : Place} → r ≡ earlierOf p q → Finds f s p → q ≡ place (firstBadPlace fs s)
+    → r ≡ place (firstBadPlace (f ∷ fs) s)
+unfolding firstBadPlace
+behind f fs s e x y = e ∙ ap₂ earlierOf x y ∙ then (badPlace (f .rule) (f .at) (part s (f .at) (f .width))) (firstBadPlace fs s)
+
+-- one field, two, or three in a row
+
+alone : (a : Option ℕ) → place a ≡ place (orElse a none)
+alone none = refl
+alone (some at) = refl
+
+pub one : (f : Field) (s : List ℕ) {r : Place} → Finds f s r → r ≡ place (firstBadPlace (f ∷ []) s)
+unfolding firstBadPlace
+one f s e = e ∙ alone (badPlace (f .rule) (f .at) (part s (f .at) (f .width)))
+
+pub two : (f g : Field) (s : List ℕ) {r p q : Place} → r ≡ earlierOf p q → Finds f s p → Finds g s q → r ≡ place (firstBadPlace (f ∷ g ∷ []) s)
+two f g s e x y = behind f (g ∷ []) s e x (one g s y)
+
+-- ---- 2, 3 or neither
+
+by-place : (p : Option ℕ) → answerFor (place p) ≡ (firstOf not (isNone p) ⇒ BadField ⨾ Done)
+by-place none = refl
+by-place (some at) = refl
+
+pub answer-judged : (s : List ℕ) → wellFormed s ≡ true → answerFor (place (badPlaceOf s)) ≡ entryAnswer s
+unfolding entryAnswer allLegal
+answer-judged s w = by-place (badPlaceOf s) ∙ sym (rw w)
+
+pub answer-malformed : (s : List ℕ) → wellFormed s ≡ false → Malformed ≡ entryAnswer s
+unfolding entryAnswer
+answer-malformed s h = rw h

@@ -1,0 +1,28 @@
+-- Everything that the crates below define, open at once, for proofs by computation. Assumes nothing.
+use Rattle.octets.proofs.Opened.{opened as octets-opened}
+use Rattle.answers.proofs.Opened.{opened as answers-opened}
+use Rattle.wire.proofs.Opened.{opened as wire-opened}
+use Rattle.outbox.proofs.Opened.{opened as outbox-opened}
+use Rattle.inbound.proofs.Opened.{opened as inbound-opened}
+use Rattle.outbound.proofs.Opened.{opened as outbound-opened}
+use Rattle.orders.proofs.Opened.{opened as orders-opened}
+use Rattle.header.proofs.Opened.{opened as header-opened}
+use Rattle.table.proofs.Opened.{opened as table-opened}
+use Rattle.tape.proofs.Opened.{opened as tape-opened}
+use Rattle.host.proofs.Opened.{opened as host-opened}
+use Rattle.rules.specs.Plan.{refused, allowed, changing, renumbering, accepting, replacing, rejecting, beginning}
+use Rattle.rules.specs.Enter.{badDisplay, badPrice, badShares, badMinimum, faultOfNumbers, enterFault, acceptedTerms, enteredKept, enteredOrder, enterOutcome, enterRule}
+use Rattle.rules.specs.Replace.{badBesidePrice, badDetails, replacementOrder, canceledWhole, replaceOpen, replaceRule}
+use Rattle.rules.specs.Cancel.{cancelIgnored, lateCancel, decrement, canceledOrder, cancelRule}
+use Rattle.rules.specs.Modify.{sideAllowed, modifyIgnored, modifiedOrder, modifyRule}
+use Rattle.market.specs.Guards.{marketAnswer}
+use Rattle.market.specs.Taken.{sharesRight, executionRule, bookCancelRule, selfMatchRule}
+use Rattle.market.specs.Priority.{prioritisedOrder, priorityRule}
+use Rattle.market.specs.Cross.{lateRule, crossDone, crossDoneRule}
+use Rattle.market.specs.Day.{systemRule}
+use Rattle.notices.specs.Notices.{statedOrder, acceptedNotice, replacedNotice, canceledNotice, selfMatchNotice, executedNotice, rejectedNotice, priorityNotice, modifiedNotice, noticeBytes, message, sent}
+use Rattle.tape.specs.Entries.{namesOrder}
+
+unfoldable pub below : Unit {0}
+unfolding octets-opened answers-opened wire-opened outbox-opened inbound-opened outbound-opened orders-opened header-opened table-opened tape-opened host-opened refused allowed changing renumbering accepting replacing rejecting beginning badDisplay badPrice badShares badMinimum faultOfNumbers enterFault acceptedTerms enteredKept enteredOrder enterOutcome enterRule badBesidePrice badDetails replacementOrder canceledWhole replaceOpen replaceRule cancelIgnored lateCancel decrement canceledOrder cancelRule sideAllowed modifyIgnored modifiedOrder modifyRule marketAnswer sharesRight executionRule bookCancelRule selfMatchRule prioritisedOrder priorityRule lateRule crossDone crossDoneRule systemRule statedOrder acceptedNotice replacedNotice canceledNotice selfMatchNotice executedNotice rejectedNotice priorityNotice modifiedNotice noticeBytes message sent namesOrder
+below = tt

@@ -1,0 +1,10 @@
+pub mod Play
+pub mod Entries
+pub mod Messages
+pub mod Case
+pub mod Worked
+pub mod Faults
+pub mod House
+pub mod Replay
+pub mod Edges
+pub mod Odds

@@ -1,0 +1,25 @@
+//! Sizes in bytes, and limits, as the paper has them.
+
+/// The bytes of a table's header.
+pub const HEADER_SIZE: usize = 64;
+/// The bytes of a record.
+pub const RECORD_SIZE: usize = 80;
+/// The most records of a table; the fewest are one.
+pub const MOST_RECORDS: usize = 800;
+/// The most firms of a table; the fewest are one.
+pub const MOST_FIRMS: usize = 8;
+/// The highest threshold; the lowest is 1.
+pub const HIGHEST_THRESHOLD: u32 = 1_000_000;
+/// The shortest ring, which has room for the longest message.
+pub const SHORTEST_RING: usize = 80;
+/// The longest ring.
+pub const LONGEST_RING: usize = 65_536;
+/// The longest entry, its byte of kind and its stamp included.
+pub const LONGEST_ENTRY: usize = 56;
+/// The longest message.
+pub const LONGEST_MESSAGE: usize = 80;
+
+/// The bytes of a table with so many records.
+pub const fn table_size(records: usize) -> usize {
+    HEADER_SIZE + RECORD_SIZE * records
+}
