@@ -6,7 +6,7 @@ use crate::row::Tally;
 use crate::row::shown;
 
 // Columns: what it shows, the script, what should come of it.
-pub fn answers(tally: Tally) -> Tally {
+pub(crate) fn answers(tally: Tally) -> Tally {
     shown(
         tally,
         b"\

@@ -146,7 +146,7 @@ fn spoil(entry: &mut [u8], run: Run) {
 }
 
 // The entry that a script's letter and number stand for, at the front of 56 bytes.
-pub fn entry(run: Run, kind: u8, n: u32) -> [u8; 56] {
+pub(crate) fn entry(run: Run, kind: u8, n: u32) -> [u8; 56] {
     let mut bytes = shape(kind);
     set_letters(&mut bytes, run, kind);
     set_number(&mut bytes, 1, 8, run.stamp as u64 * 1_000_000_000);
@@ -157,7 +157,7 @@ pub fn entry(run: Run, kind: u8, n: u32) -> [u8; 56] {
 }
 
 // How long it is, with what the script cuts off.
-pub fn size(run: Run, kind: u8) -> usize {
+pub(crate) fn size(run: Run, kind: u8) -> usize {
     let whole = whole_size(kind);
     if whole < run.cut { 0 } else { whole - run.cut }
 }

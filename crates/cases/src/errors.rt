@@ -3,7 +3,7 @@ use crate::row::Tally;
 use crate::row::shown;
 
 // Columns: what it shows, the script, what should come of it.
-pub fn errors(tally: Tally) -> Tally {
+pub(crate) fn errors(tally: Tally) -> Tally {
     shown(
         tally,
         b"\

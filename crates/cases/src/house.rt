@@ -12,7 +12,7 @@ fn firms() -> [Firm; 8] {
     list
 }
 
-pub fn open(table: &mut [u8], threshold: u32, count: u32) {
+pub(crate) fn open(table: &mut [u8], threshold: u32, count: u32) {
     fresh(
         table,
         Settings {

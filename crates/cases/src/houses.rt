@@ -3,7 +3,7 @@ use crate::row::Tally;
 use crate::row::shown;
 
 // Columns: what it shows, the script, what should come of it.
-pub fn houses(tally: Tally) -> Tally {
+pub(crate) fn houses(tally: Tally) -> Tally {
     shown(
         tally,
         b"\

@@ -4,7 +4,7 @@ use crate::row::Tally;
 use crate::row::shown;
 
 // Columns: what it shows, the script, what should come of it.
-pub fn letters(tally: Tally) -> Tally {
+pub(crate) fn letters(tally: Tally) -> Tally {
     shown(
         tally,
         b"\

@@ -65,7 +65,7 @@ fn counted(tally: Tally, agrees: bool) -> Tally {
 }
 
 // Each line of the list is a row.
-pub fn shown(before: Tally, list: &[u8]) -> Tally {
+pub(crate) fn shown(before: Tally, list: &[u8]) -> Tally {
     let mut tally = before;
     let mut from: usize = 0;
     let mut i: usize = 0;

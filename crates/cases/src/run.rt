@@ -40,7 +40,7 @@ pub const LONGEST: usize = 128;
 // A place past every entry.
 pub const NOWHERE: usize = 56;
 
-pub fn begun() -> Run {
+pub(crate) fn begun() -> Run {
     Run {
         marks: Marks { at: 0, held: 0 },
         ring: LONGEST,
@@ -66,7 +66,7 @@ pub fn begun() -> Run {
 }
 
 // Whether a letter of a script sets something, and is no entry.
-pub fn sets(letter: u8) -> bool {
+pub(crate) fn sets(letter: u8) -> bool {
     match letter {
         b'A'
         | b'B'
@@ -87,7 +87,7 @@ pub fn sets(letter: u8) -> bool {
     }
 }
 
-pub fn set(before: Run, letter: u8, n: u32) -> Run {
+pub(crate) fn set(before: Run, letter: u8, n: u32) -> Run {
     let mut run = before;
     match letter {
         b'=' => {
@@ -131,13 +131,13 @@ pub fn set(before: Run, letter: u8, n: u32) -> Run {
     run
 }
 
-pub fn marked(before: Run, marks: Marks) -> Run {
+pub(crate) fn marked(before: Run, marks: Marks) -> Run {
     let mut run = before;
     run.marks = marks;
     run
 }
 
-pub fn answered(before: Run, marks: Marks, last: Last) -> Run {
+pub(crate) fn answered(before: Run, marks: Marks, last: Last) -> Run {
     let mut run = before;
     run.marks = marks;
     run.last = last;

@@ -173,7 +173,7 @@ fn followed(table: &mut [u8], ring: &mut [u8], word: Word, c: u8) -> Word {
     lettered(word, c)
 }
 
-pub fn play(table: &mut [u8], ring: &mut [u8], script: &[u8]) -> Run {
+pub(crate) fn play(table: &mut [u8], ring: &mut [u8], script: &[u8]) -> Run {
     let mut word = Word {
         run: begun(),
         letter: b' ',

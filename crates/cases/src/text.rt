@@ -1,7 +1,7 @@
 // Texts in a buffer: what does not fit is left out, so that nobody has to count.
 
 // Writes the words at `at`, and answers the place behind them.
-pub fn put(out: &mut [u8], at: usize, words: &[u8]) -> usize {
+pub(crate) fn put(out: &mut [u8], at: usize, words: &[u8]) -> usize {
     let n = words.len();
     if out.len() < at {
         return at;
@@ -13,14 +13,14 @@ pub fn put(out: &mut [u8], at: usize, words: &[u8]) -> usize {
     at + n
 }
 
-pub fn put_number(out: &mut [u8], at: usize, n: u64) -> usize {
+pub(crate) fn put_number(out: &mut [u8], at: usize, n: u64) -> usize {
     let mut digits = [0u8; 20];
     let k = io::decimal(n, &mut digits);
     put(out, at, &digits[..k])
 }
 
 // The bytes from `from` on and before `end`; none where these are no places.
-pub fn part(s: &[u8], from: usize, end: usize) -> &[u8] {
+pub(crate) fn part(s: &[u8], from: usize, end: usize) -> &[u8] {
     if s.len() < end {
         return &s[..0];
     }
@@ -31,12 +31,12 @@ pub fn part(s: &[u8], from: usize, end: usize) -> &[u8] {
 }
 
 // The byte at a place; a question mark past the end.
-pub fn letter(s: &[u8], at: usize) -> u8 {
+pub(crate) fn letter(s: &[u8], at: usize) -> u8 {
     if at < s.len() { s[at] } else { b'?' }
 }
 
 // The number in the four bytes at a place; 0 past the end.
-pub fn number(s: &[u8], at: usize) -> u64 {
+pub(crate) fn number(s: &[u8], at: usize) -> u64 {
     if s.len() < 4 {
         return 0;
     }
@@ -47,7 +47,7 @@ pub fn number(s: &[u8], at: usize) -> u64 {
 }
 
 // Without the spaces that fill its column.
-pub fn trimmed(s: &[u8]) -> &[u8] {
+pub(crate) fn trimmed(s: &[u8]) -> &[u8] {
     let mut end = s.len();
     while 0 < end && s[end - 1] == b' ' {
         end -= 1;

@@ -154,7 +154,7 @@ fn behind(older: &[u8], out: &mut [u8], from: usize) -> usize {
     put(out, at, b"?")
 }
 
-pub fn told(table: &[u8], ring: &[u8], run: Run, out: &mut [u8]) -> usize {
+pub(crate) fn told(table: &[u8], ring: &[u8], run: Run, out: &mut [u8]) -> usize {
     if run.last.answer != 0 {
         return refused(run, out);
     }

@@ -4,7 +4,7 @@ use crate::row::Tally;
 use crate::row::shown;
 
 // Columns: what it shows, the script, what should come of it.
-pub fn worked(tally: Tally) -> Tally {
+pub(crate) fn worked(tally: Tally) -> Tally {
     shown(
         tally,
         b"\

@@ -8,7 +8,7 @@ use outbox::marks::Marks;
 use outbox::release::release;
 
 // Whether all of the line was written.
-pub fn print(shown: Shown) -> bool
+pub(crate) fn print(shown: Shown) -> bool
     requires { ⌜ shown .len ≤ length (shown .bytes) ⌝ }
 {
     let bytes = shown.bytes;
@@ -21,18 +21,18 @@ fn small(n: usize) -> u32 {
     (n % 4_294_967_296) as u32
 }
 
-pub fn draw(size: usize, marks: Marks) -> bool {
+pub(crate) fn draw(size: usize, marks: Marks) -> bool {
     print(ring_line(small(size), small(marks.at), small(marks.held)))
 }
 
 // The marks after a reader took as much as it takes, or all that is held.
-pub fn taken_from(size: usize, marks: Marks, takes: usize) -> Marks {
+pub(crate) fn taken_from(size: usize, marks: Marks, takes: usize) -> Marks {
     let moved = release(size, marks, octets::least(takes, marks.held));
     moved.marks
 }
 
 // The reader goes on alone until nothing is held, and the ring is drawn each time that it took, from the last offer on.
-pub fn drain(size: usize, marks: Marks, takes: usize)
+pub(crate) fn drain(size: usize, marks: Marks, takes: usize)
     requires { ⌜ 1 ≤ takes ⌝ }
 {
     let mut now = marks;

@@ -28,7 +28,7 @@ use tape::reading::system_of;
 use tape::reading::token_of;
 
 // By the kind. An entry with a bad field is shown by its answer alone.
-pub fn show_entry(s: &[u8]) -> bool {
+pub(crate) fn show_entry(s: &[u8]) -> bool {
     let answer = judge(s);
     if is_done(answer) {
         return show_legal(s);

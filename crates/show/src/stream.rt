@@ -25,7 +25,7 @@ use outbound::stated::Stated;
 use outbound::system_event::read_system_event;
 
 // By the type. A feed hands out messages of these types alone.
-pub fn show_message(s: &[u8]) -> bool {
+pub(crate) fn show_message(s: &[u8]) -> bool {
     if s.len() == 0 {
         return true;
     }

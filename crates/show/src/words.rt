@@ -6,22 +6,22 @@ use libc::STDOUT_FILENO;
 use listing::clock::clock;
 use listing::price::behind_point;
 
-pub fn say(words: &[u8]) {
+pub(crate) fn say(words: &[u8]) {
     io::write_all(STDOUT_FILENO, words);
 }
 
 // Every line ends here. Where standard output takes no more, so much as the line's end, the answer is false and the program stops.
-pub fn end_line() -> bool {
+pub(crate) fn end_line() -> bool {
     io::write_all(STDOUT_FILENO, b"\n")
 }
 
-pub fn say_number(name: &[u8], n: u64) {
+pub(crate) fn say_number(name: &[u8], n: u64) {
     say(name);
     io::print_decimal(STDOUT_FILENO, n);
 }
 
 // Four digits stand behind the point.
-pub fn say_price(price: u32) {
+pub(crate) fn say_price(price: u32) {
     say_number(b" price ", price as u64 / 10_000);
     say(b".");
     say(&behind_point(price));
@@ -32,7 +32,7 @@ fn printable(b: u8) -> u8 {
     if (b' ' <= b) & (b <= b'~') { b } else { b'?' }
 }
 
-pub fn say_letter(name: &[u8], b: u8) {
+pub(crate) fn say_letter(name: &[u8], b: u8) {
     say(name);
     say(&[b'\'', printable(b), b'\'']);
 }
@@ -56,31 +56,31 @@ fn say_text(name: &[u8], text: &[u8]) {
     say(&shown[0..n + 2]);
 }
 
-pub fn say_stamp(name: &[u8], stamp: u64) {
+pub(crate) fn say_stamp(name: &[u8], stamp: u64) {
     say(name);
     say(&clock(stamp));
 }
 
 // Arrays by value: of one that was taken from a struct the length is not known otherwise.
-pub fn say_stock(stock: [u8; 8]) {
+pub(crate) fn say_stock(stock: [u8; 8]) {
     say_text(b" stock ", &stock);
 }
 
-pub fn say_firm(firm: [u8; 4]) {
+pub(crate) fn say_firm(firm: [u8; 4]) {
     say_text(b" firm ", &firm);
 }
 
-pub fn say_token(name: &[u8], token: [u8; 14]) {
+pub(crate) fn say_token(name: &[u8], token: [u8; 14]) {
     say_text(name, &token);
 }
 
 // What most lines begin with.
-pub fn say_head(name: &[u8], stamp: u64, token: [u8; 14]) {
+pub(crate) fn say_head(name: &[u8], stamp: u64, token: [u8; 14]) {
     say_stamp(name, stamp);
     say_token(b" ", token);
 }
 
-pub fn say_refused(name: &[u8], answer: Answer) -> bool {
+pub(crate) fn say_refused(name: &[u8], answer: Answer) -> bool {
     say(name);
     say_number(b" refused with ", number(answer) as u64);
     end_line()
