@@ -65,9 +65,11 @@ pub fn header(table: &[u8]) -> Header
 pub fn used(table: &[u8]) -> usize
     ensures { λ r. ⌜ r ≡ usedIn (now (table .entry)) ⌝ }
 {
-    let blank = [0u8; HEADER_SIZE];
+    if table.len() < HEADER_SIZE {
+        return 0;
+    }
     least(
-        octets::be32(head_bytes(table, &blank), 4) as usize,
+        octets::be32(&table[0..HEADER_SIZE], 4) as usize,
         records_in(table),
     )
 }
