@@ -1,5 +1,5 @@
 // When the 80 bytes of a used record are sound. A table is judged record by record at every step, so the tests of a token and of a state are
-// gathered without a branch. Between the two stands one, which in a sound table always goes the same way: measured, it is an eighth faster.
+// gathered without a branch. Between the two stands one, which in a sound table always goes the same way: measured, it is faster.
 ghost use mathlib.Core.Path.{_≡_};
 ghost use lib.ListN.{length};
 ghost use Rattle.wire.specs.Layout.{noBadPlace};

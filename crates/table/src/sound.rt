@@ -45,7 +45,10 @@ pub fn sound(table: &[u8]) -> bool
     ensures { λ r. ⌜ r ≡ sound (now (table .entry)) ⌝ }
 {
     let blank = [0u8; HEADER_SIZE];
-    size_good(table)
-        & header_sound(head_bytes(table, &blank), records_in(table))
-        & records_sound(table, used(table))
+    if size_good(table) {
+        if header_sound(head_bytes(table, &blank), records_in(table)) {
+            return records_sound(table, used(table));
+        }
+    }
+    false
 }
