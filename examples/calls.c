@@ -12,7 +12,7 @@ static const char cancel[] = "X\0\0\0\0\0\0\0\3TOKEN1        \0\0\0\0";
 static const char message[] = "XTOKEN1        \0\0\0\0";
 
 static uint8_t table[PQ_TABLE_SIZE(1)], ring[PQ_SHORTEST_RING], out[PQ_LONGEST_MESSAGE];
-static size_t at, held;
+static size_t at, held, place;
 static int calls, wrong;
 
 static void is(const char *what, size_t should, size_t did)
@@ -24,7 +24,7 @@ static void is(const char *what, size_t should, size_t did)
 
 static uint8_t step(const uint8_t *entry, size_t length)
 {
-    return pq_step(table, sizeof table, ring, sizeof ring, &at, &held, entry, length);
+    return pq_step(table, sizeof table, ring, sizeof ring, &at, &held, entry, length, &place);
 }
 
 static void freshes(void)
@@ -48,6 +48,19 @@ static void steps(void)
     is("held after it", 76, held);
 }
 
+/* An answer 3 tells the first bad byte: of a field its first one, of a token the character. No other answer tells one. */
+static void places(void)
+{
+    is("a token with a full stop", PQ_BAD_FIELD, step(BYTES("X\0\0\0\0\0\0\0\3TOKEN.        \0\0\0\0")));
+    is("its place", 14, place);
+    is("a stamp of the next day, and that token", PQ_BAD_FIELD, step(BYTES("X\1\0\0\0\0\0\0\3TOKEN.        \0\0\0\0")));
+    is("its place", 1, place);
+    is("a system event that there is not", PQ_BAD_FIELD, step(BYTES("s\0\0\0\0\0\0\0\3T")));
+    is("its place", 9, place);
+    is("a kind that there is not", PQ_MALFORMED, step(BYTES("?")));
+    is("its place", 0, place);
+}
+
 static void releases(void)
 {
     is("read", 76, pq_read(ring, sizeof ring, at, held));
@@ -67,7 +80,7 @@ static void releases(void)
 static void wrongs(void)
 {
     size_t past = sizeof ring, none = 0;
-    is("step with a place past the ring", PQ_WRONG_RING, pq_step(table, sizeof table, ring, sizeof ring, &past, &none, BYTES(cancel)));
+    is("step with a place past the ring", PQ_WRONG_RING, pq_step(table, sizeof table, ring, sizeof ring, &past, &none, BYTES(cancel), &place));
     is("read with it", 0, pq_read(ring, sizeof ring, past, 1));
     is("release of 1 with it", PQ_WRONG_RING, pq_release(sizeof ring, &past, &none, 1));
     table[0] = 3;
@@ -76,11 +89,13 @@ static void wrongs(void)
 
 static void echoes(void)
 {
-    is("echo", PQ_DONE, pq_echo(1, BYTES(message), out, sizeof out));
+    is("echo", PQ_DONE, pq_echo(1, BYTES(message), out, sizeof out, &place));
     is("echoed bytes differ", 0, memcmp(out, message, sizeof message - 1) != 0);
-    is("echo as the host's", PQ_MALFORMED, pq_echo(0, BYTES(message), out, sizeof out));
-    is("echo with a bad token into 18 bytes", PQ_BAD_FIELD, pq_echo(1, BYTES("XTOKEN!        \0\0\0\0"), out, 18));
-    is("echo into 18 bytes", PQ_NO_ROOM, pq_echo(1, BYTES(message), out, 18));
+    is("echo as the host's", PQ_MALFORMED, pq_echo(0, BYTES(message), out, sizeof out, &place));
+    is("echo with a bad token into 18 bytes", PQ_BAD_FIELD, pq_echo(1, BYTES("XTOKEN!        \0\0\0\0"), out, 18, &place));
+    is("its place", 6, place);
+    is("echo into 18 bytes", PQ_NO_ROOM, pq_echo(1, BYTES(message), out, 18, &place));
+    is("its place", 0, place);
 }
 
 /* Where a length is 0 there need be no memory. */
@@ -90,12 +105,12 @@ static void nothings(void)
     is("fresh of no table", PQ_NOT_SOUND, pq_fresh(NULL, 0, 1, BYTES("A   ")));
     is("fresh without firms", PQ_BAD_FIELD, pq_fresh(table, sizeof table, 1, NULL, 0));
     is("fresh", PQ_DONE, pq_fresh(table, sizeof table, 1, BYTES("A   ")));
-    is("step on no table", PQ_NOT_SOUND, pq_step(NULL, 0, ring, sizeof ring, &zero, &none, BYTES(start)));
-    is("step without a ring", PQ_WRONG_RING, pq_step(table, sizeof table, NULL, 0, &zero, &none, BYTES(start)));
-    is("step of no entry", PQ_MALFORMED, pq_step(table, sizeof table, ring, sizeof ring, &zero, &none, NULL, 0));
+    is("step on no table", PQ_NOT_SOUND, pq_step(NULL, 0, ring, sizeof ring, &zero, &none, BYTES(start), &place));
+    is("step without a ring", PQ_WRONG_RING, pq_step(table, sizeof table, NULL, 0, &zero, &none, BYTES(start), &place));
+    is("step of no entry", PQ_MALFORMED, pq_step(table, sizeof table, ring, sizeof ring, &zero, &none, NULL, 0, &place));
     is("read of no ring", 0, pq_read(NULL, 0, 0, 0));
-    is("echo of no message", PQ_MALFORMED, pq_echo(1, NULL, 0, out, sizeof out));
-    is("echo into no buffer", PQ_NO_ROOM, pq_echo(1, BYTES(message), NULL, 0));
+    is("echo of no message", PQ_MALFORMED, pq_echo(1, NULL, 0, out, sizeof out, &place));
+    is("echo into no buffer", PQ_NO_ROOM, pq_echo(1, BYTES(message), NULL, 0, &place));
 }
 
 /* The lengths of all kinds and types, and that there are no others. */
@@ -125,6 +140,7 @@ int main(void)
 {
     freshes();
     steps();
+    places();
     releases();
     wrongs();
     echoes();

@@ -16,7 +16,7 @@
 struct desk {
     uint8_t table[PQ_TABLE_SIZE(PQ_MOST_RECORDS)];
     uint8_t ring[ROOMY];
-    size_t ring_len, at, held;
+    size_t ring_len, at, held, place;
 };
 
 static struct desk small, roomy;
@@ -31,7 +31,7 @@ static void open_desk(struct desk *desk, size_t ring_len)
 
 static uint8_t offer(struct desk *desk, const uint8_t *entry, size_t length)
 {
-    return pq_step(desk->table, sizeof desk->table, desk->ring, desk->ring_len, &desk->at, &desk->held, entry, length);
+    return pq_step(desk->table, sizeof desk->table, desk->ring, desk->ring_len, &desk->at, &desk->held, entry, length, &desk->place);
 }
 
 /* The reader takes at most k bytes of the unbroken run into `out`, and gives them up. */
@@ -78,6 +78,8 @@ static uint8_t offer_until_taken(const uint8_t *entry, size_t length)
         fprintf(stderr, "%c answered 9, %zu of %zu held; %zu bytes read and released\n", entry[0], held, small.ring_len, held - small.held);
     }
     fprintf(stderr, "%c answered %d, %zu of %zu held\n", entry[0], answer, small.held, small.ring_len);
+    if (answer == PQ_BAD_FIELD)
+        fprintf(stderr, "its first bad byte is at %zu, of %zu\n", small.place, length);
     return answer;
 }
 
@@ -89,7 +91,7 @@ int main(void)
     for (size_t length; answer != PQ_MALFORMED && (length = next_entry(entry)) > 0;) {
         uint8_t roomys = offer(&roomy, entry, length);
         answer = offer_until_taken(entry, length);
-        differs |= answer != roomys;
+        differs |= answer != roomys || small.place != roomy.place;
     }
     while (small.held > 0)
         read_piece();

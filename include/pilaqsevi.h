@@ -73,8 +73,10 @@ uint8_t pq_fresh(uint8_t *table, size_t table_len, uint32_t threshold, const uin
  * The ring has 80 to 65,536 bytes, *at is below its length and *held at most its length. No other byte of table and ring changes.
  * Answers PQ_NOT_SOUND, PQ_WRONG_RING, PQ_MALFORMED, PQ_BAD_FIELD, PQ_TOO_EARLY, PQ_IGNORED, PQ_NOT_LIVE, PQ_WRONG_MOMENT, PQ_WRONG_SHARES,
  * PQ_FULL, PQ_BLOCKED or PQ_DONE. An entry that was answered PQ_BLOCKED may be offered again once bytes were released, and comes to the same.
+ * *place is written by every call: with PQ_BAD_FIELD it is the offset of the entry's first bad byte, its kind counted as 0, that is the first byte
+ * of the bad field or, in a token, the first character that no token has; with every other answer it is 0, where no field lies.
  */
-uint8_t pq_step(uint8_t *table, size_t table_len, uint8_t *ring, size_t ring_len, size_t *at, size_t *held, const uint8_t *entry, size_t entry_len);
+uint8_t pq_step(uint8_t *table, size_t table_len, uint8_t *ring, size_t ring_len, size_t *at, size_t *held, const uint8_t *entry, size_t entry_len, size_t *place);
 
 /*
  * The length of the longest unbroken run of held bytes, which starts at ring + at. 0 where nothing is held, and where the ring's length or
@@ -92,9 +94,10 @@ uint8_t pq_release(size_t ring_len, size_t *at, size_t *held, size_t k);
  * Reads the message, as one of a client's where `inbound` is not 0 and otherwise as one of the host's, and writes it to the front of `out`.
  * Where the answer is PQ_DONE the first `len` bytes of `out` are the message's and the others are what they were.
  * Answers PQ_MALFORMED for an unknown type or a length that is not the type's; PQ_BAD_FIELD for a bad stamp, token, side or sweep; PQ_NO_ROOM
- * where out_len is too short; PQ_DONE.
+ * where out_len is too short; PQ_DONE. *place is written by every call: with PQ_BAD_FIELD it is the offset of the message's first bad byte, its
+ * type counted as 0, and with every other answer it is 0.
  */
-uint8_t pq_echo(uint8_t inbound, const uint8_t *message, size_t len, uint8_t *out, size_t out_len);
+uint8_t pq_echo(uint8_t inbound, const uint8_t *message, size_t len, uint8_t *out, size_t out_len, size_t *place);
 
 /*
  * The length of an entry of this kind, the byte of kind and the stamp included; 0 where there is no such kind. A driver that cuts a tape

@@ -7,7 +7,7 @@ unfolding isDone
 is-done NotSound h = absurd (false≢true h)
 is-done WrongRing h = absurd (false≢true h)
 is-done Malformed h = absurd (false≢true h)
-is-done BadField h = absurd (false≢true h)
+is-done (BadField at) h = absurd (false≢true h)
 is-done TooEarly h = absurd (false≢true h)
 is-done Ignored h = absurd (false≢true h)
 is-done NotLive h = absurd (false≢true h)

@@ -10,7 +10,7 @@ abbrev pub answerNumber : Answer → ℕ
 answerNumber NotSound = 10
 answerNumber WrongRing = 11
 answerNumber Malformed = 2
-answerNumber BadField = 3
+answerNumber (BadField at) = 3
 answerNumber TooEarly = 4
 answerNumber Ignored = 1
 answerNumber NotLive = 5
@@ -21,6 +21,23 @@ answerNumber Blocked = 9
 answerNumber NotHeld = 12
 answerNumber NoRoom = 13
 answerNumber Done = 0
+
+-- Ask 1: an answer 3 tells the offset of the first bad byte; every other answer has place 0
+abbrev pub answerPlace : Answer → ℕ
+answerPlace NotSound = 0
+answerPlace WrongRing = 0
+answerPlace Malformed = 0
+answerPlace (BadField at) = at
+answerPlace TooEarly = 0
+answerPlace Ignored = 0
+answerPlace NotLive = 0
+answerPlace WrongMoment = 0
+answerPlace WrongShares = 0
+answerPlace Full = 0
+answerPlace Blocked = 0
+answerPlace NotHeld = 0
+answerPlace NoRoom = 0
+answerPlace Done = 0
 
 unfoldable pub isDone : Answer → Bool
 isDone answer = eqb (answerNumber answer) 0

@@ -1,14 +1,15 @@
 // What every call of the host answers, and the one place where an answer becomes the paper's number.
 ghost use mathlib.Core.Path.{_≡_};
 ghost use Rattle.octets.specs.Choice.{_⇒_⨾_};
-ghost use Rattle.answers.specs.Answer.{answerNumber, isDone};
+ghost use Rattle.answers.specs.Answer.{answerNumber, answerPlace, isDone};
 
-// In the paper's order of checking; the last three are a release's, a writer's, and the only one that changes anything.
+// In the paper's order of checking; the last three are a release's, a writer's, and the only one that changes anything. A bad field comes with
+// the offset of its first bad byte.
 pub enum Answer {
     NotSound,
     WrongRing,
     Malformed,
-    BadField,
+    BadField(usize),
     TooEarly,
     Ignored,
     NotLive,
@@ -29,7 +30,7 @@ pub fn number(answer: Answer) -> u8
         Answer::NotSound => 10,
         Answer::WrongRing => 11,
         Answer::Malformed => 2,
-        Answer::BadField => 3,
+        Answer::BadField(_) => 3,
         Answer::TooEarly => 4,
         Answer::Ignored => 1,
         Answer::NotLive => 5,
@@ -39,6 +40,28 @@ pub fn number(answer: Answer) -> u8
         Answer::Blocked => 9,
         Answer::NotHeld => 12,
         Answer::NoRoom => 13,
+        Answer::Done => 0,
+    }
+}
+
+// The place that an answer tells; 0 where it tells none.
+pub fn place(answer: Answer) -> usize
+    ensures { λ r. ⌜ r ≡ answerPlace answer ⌝ }
+{
+    match answer {
+        Answer::NotSound => 0,
+        Answer::WrongRing => 0,
+        Answer::Malformed => 0,
+        Answer::BadField(at) => at,
+        Answer::TooEarly => 0,
+        Answer::Ignored => 0,
+        Answer::NotLive => 0,
+        Answer::WrongMoment => 0,
+        Answer::WrongShares => 0,
+        Answer::Full => 0,
+        Answer::Blocked => 0,
+        Answer::NotHeld => 0,
+        Answer::NoRoom => 0,
         Answer::Done => 0,
     }
 }

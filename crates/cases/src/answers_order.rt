@@ -15,8 +15,8 @@ pub(crate) fn answers(tally: Tally) -> Tally {
 11 before 2: ring of 79, kind unknown     R79 Z                                 answer 11, nothing changed
 2: kind unknown                           Z                                     answer 2, nothing changed
 2 before 3: a byte short, bad token       s ! <1 O500                           answer 2, nothing changed
-3: bad token                              s ! O500                              answer 3, nothing changed
-3 before 4: bad token, too early          s ! @34199 O500                       answer 3, nothing changed
+3: bad token                              s ! O500                              answer 3 at 9, nothing changed
+3 before 4: bad token, too early          s ! @34199 O500                       answer 3 at 9, nothing changed
 4: too early                              s @34199 O500                         answer 4, nothing changed
 4 before 1: too early, token used         s O500 @34199 O500                    answer 4, nothing changed
 1: token used                             s O500 O500                           answer 1, nothing changed

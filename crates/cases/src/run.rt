@@ -1,10 +1,11 @@
 // What a script has set so far, and what came of the last entry.
 use outbox::marks::Marks;
 
-// The answer, how many bytes were held before, whether a byte of table or ring or a mark has changed, and whether the first record's 80 bytes
+// The answer and its place, how many bytes were held before, whether a byte of table or ring or a mark has changed, and whether the first record's 80 bytes
 // are what they were.
 pub struct Last {
     pub answer: u8,
+    pub place: usize,
     pub before: usize,
     pub changed: bool,
     pub intact: bool,
@@ -58,6 +59,7 @@ pub(crate) fn begun() -> Run {
         keeps: false,
         last: Last {
             answer: 0,
+            place: 0,
             before: 0,
             changed: false,
             intact: false,

@@ -28,6 +28,7 @@ use crate::text::part;
 use crate::text::put;
 use answers::Answer;
 use answers::number;
+use answers::place;
 use host::step::step;
 use outbox::marks::Marks;
 use outbox::read::read;
@@ -70,6 +71,7 @@ fn last(answer: Answer, was: Marks, marks: Marks, before: [u8; 352], after: [u8;
     let same = check::same(&before, &after) & (marks.at == was.at) & (marks.held == was.held);
     Last {
         answer: number(answer),
+        place: place(answer),
         before: was.held,
         changed: !same,
         intact: check::same(part(&before, 64, 144), part(&after, 64, 144)),

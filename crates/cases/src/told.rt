@@ -13,10 +13,20 @@ use outbox::release::release;
 use std::num::wrapping_sub_u64;
 use wire::messages::message_length;
 
+// The place that the answer tells, where it tells one.
+fn place(run: Run, out: &mut [u8], from: usize) -> usize {
+    if run.last.place == 0 {
+        return from;
+    }
+    let at = put(out, from, b" at ");
+    put_number(out, at, run.last.place as u64)
+}
+
 // A refusal changes nothing, so there is no more to say of it.
 fn refused(run: Run, out: &mut [u8]) -> usize {
     let at = put(out, 0, b"answer ");
-    let end = put_number(out, at, run.last.answer as u64);
+    let told = put_number(out, at, run.last.answer as u64);
+    let end = place(run, out, told);
     if run.last.changed {
         return put(out, end, b", but something changed");
     }

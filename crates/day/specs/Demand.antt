@@ -29,7 +29,7 @@ pub record Ready (w : World) : Type 0 where
 pub record Streams (p : Played) (r : Ran) : Type 0 where
   -- released bytes followed by held bytes are the messages that unlimited room would give
   pub messages : r .released ++ bytes (r .world) ≡ joined (p .messages)
-  -- the other answers agree, in order
+  -- the other answers agree, in order, and the places that they tell
   pub answers : r .answers ≡ p .answers
   -- and so does the final table
   pub table : r .world .table ≡ p .table

@@ -1,31 +1,30 @@
 -- What an offer comes to, and so what the code that stands there leaves. Assumes nothing.
-use Rattle.octets.proofs.Proving.{Bool, List, _<_, _∙_, _≡_, _≤_, ap, arith, false, le-ltb, length, length-append, lt-ltb, not, refl, subst, sym, take, take-at, true, ℕ}
+use Rattle.octets.proofs.Proving.{Bool, List, Option, _<_, _∙_, _≡_, _≤_, ap, arith, false, le-ltb, length, length-append, lt-ltb, none, not, refl, some, subst, sym, take, take-at, true, ℕ}
 use Rattle.octets.specs.Choice.{_⇒_⨾_}
 use Rattle.answers.specs.Answer.{isDone}
-use Rattle.wire.specs.Messages.{inEighty}
+use Rattle.wire.specs.Messages.{badAt_⨾_, inEighty}
 use Rattle.outbox.specs.Outbox.{freeBytes, ringWith, marksWith}
 use Rattle.table.specs.Table.{header}
-use Rattle.tape.specs.Entries.{wellFormed, allLegal, entryAnswer, stampOf}
+use Rattle.tape.specs.Entries.{wellFormed, badPlaceOf, entryAnswer, stampOf}
 use Rattle.rules.specs.Plan.{refused}
 use Rattle.notices.specs.Notices.{message, sent}
 use Rattle.notices.specs.declared.Sent.{Sent}
 use Rattle.host.specs.Types.{Answer, Done, Malformed, TooEarly, Blocked, Decision, Plan, Marks}
 use Rattle.host.specs.Step.{World, Outcome, namedPlace, decide, withinLimits, comesTo, committed, worldAfter, unchanged, noRoom, carriedOut, settle, offer, Leaves}
-use Rattle.answers.specs.declared.Answer.the-variants.{BadField}
 
 pub stays : (w : World) (a : Answer) → Leaves (unchanged w a) a (w .marks) (w .table) (w .ring)
 stays w a = record { answered = refl; marked = refl; tabled = refl; ringed = refl }
 
 -- what judging lets pass is well formed, and no byte of it is bad
-pub judged-good : (s : List ℕ) → entryAnswer s ≡ Done → (wellFormed s ≡ true) × (allLegal s ≡ true)
+pub judged-good : (s : List ℕ) → entryAnswer s ≡ Done → (wellFormed s ≡ true) × (badPlaceOf s ≡ none)
 unfolding entryAnswer
-judged-good s legal = by (wellFormed s) (allLegal s) refl refl legal
+judged-good s legal = by (wellFormed s) (badPlaceOf s) refl refl legal
   where
-    by : (f l : Bool) → wellFormed s ≡ f → allLegal s ≡ l → (not f ⇒ Malformed ⨾ not l ⇒ BadField ⨾ Done) ≡ Done
-        → (wellFormed s ≡ true) × (allLegal s ≡ true)
-    by true true f l e = (f, l)
-    by false l f h e = absurd (let z : _≡_ {A = ℕ} 0 1 = cc in omega arith)
-    by true false f l e = absurd (let z : _≡_ {A = ℕ} 0 1 = cc in omega arith)
+    by : (f : Bool) (o : Option ℕ) → wellFormed s ≡ f → badPlaceOf s ≡ o → (not f ⇒ Malformed ⨾ badAt o ⨾ Done) ≡ Done
+        → (wellFormed s ≡ true) × (badPlaceOf s ≡ none)
+    by true none f l e = (f, l)
+    by false o f h e = absurd (let z : _≡_ {A = ℕ} 0 1 = cc in omega arith)
+    by true (some at) f l e = absurd (let z : _≡_ {A = ℕ} 0 1 = cc in omega arith)
 
 module _ (w : World) (s : List ℕ) where
   pub refused-leaves : {a : Answer} → a ≡ entryAnswer s → isDone a ≡ false → Leaves (offer w s) a (w .marks) (w .table) (w .ring)

@@ -1,23 +1,24 @@
 -- What is known of an entry that comes to something done: it is legal, a record and a reference are left where they are needed, and its plan
 -- keeps what the rules keep. Assumes nothing.
-use Rattle.octets.proofs.Proving.{Bool, List, _&&_, _+_, _<_, _||_, _∙_, _∷_, _≡_, _≤_, ap, arith, drop, drop-drop, false, false≢true, guard, le-leb, length, length-drop, ltb, ltb-true, not, not-false, or-left, or-right, refl, replicate, subst, sym, take, true, ℕ}
+use Rattle.octets.proofs.Proving.{Bool, List, Option, _&&_, _+_, _<_, _||_, _∙_, _∷_, _≡_, _≤_, ap, arith, drop, drop-drop, eqb, false, false≢true, guard, le-leb, length, length-drop, ltb, ltb-true, none, not, not-false, not-true, or-left, or-right, refl, replicate, some, subst, sym, take, true, ℕ}
 use Rattle.octets.specs.Choice.{_⇒_⨾_, allBelow}
 use Rattle.octets.specs.Bytes.{part}
 use Rattle.octets.proofs.Laws.{length-part}
 use Rattle.octets.proofs.Below.{both}
-use Rattle.answers.specs.Answer.{isDone}
+use Rattle.answers.specs.Answer.{isDone, answerNumber}
 use Rattle.answers.proofs.Laws.{is-done}
 use Rattle.wire.specs.Limits.{tokenSize, stampEnd}
 use Rattle.wire.specs.Letters.{space}
 use Rattle.wire.specs.Text.{tokenByte, capital, small, digit}
 use Rattle.wire.specs.Layout.{Field, stampAt, tokenAt, firstBadPlace, badPlace, isNone, noBadPlace}
+use Rattle.wire.specs.Messages.{badAt_⨾_}
 use Rattle.wire.proofs.NoneBad.{legalToken, none-of-both, none-unless, token-bytes}
 use Rattle.table.specs.Table.{header, usedIn, placeOf, orderFrom, orderNamed}
 use Rattle.table.proofs.Soundness.{Sound}
 use Rattle.table.proofs.Finding.{found}
 use Rattle.tape.specs.Behind.{behindOf, judgedFields}
 use Rattle.tape.specs.Kinds.{kindOf}
-use Rattle.tape.specs.Entries.{wellFormed, allLegal, badPlaceOf, entryAnswer, namesOrder, stampOf, tokenOf, messageIn, enterOf, replaceOf, cancelOf, modifyOf, executionOf, bookCancelOf, selfMatchOf, priorityOf, systemOf}
+use Rattle.tape.specs.Entries.{wellFormed, badPlaceOf, entryAnswer, namesOrder, stampOf, tokenOf, messageIn, enterOf, replaceOf, cancelOf, modifyOf, executionOf, bookCancelOf, selfMatchOf, priorityOf, systemOf}
 use Rattle.tape.proofs.Formed.{formed, long-as, judged}
 use Rattle.inbound.specs.Inbound.{enterOrderOf, replaceOrderOf}
 use Rattle.rules.specs.Plan.{refused}
@@ -26,8 +27,8 @@ use Rattle.rules.specs.Replace.{replaceRule}
 use Rattle.host.specs.Step.{namedPlace, decideBy, decide, noRecordFree, noReferenceLeft, withinLimits, comesTo}
 use Rattle.host.proofs.Offers.{judged-good}
 use Rattle.laws.specs.Blocked.{isBlocked}
-use Rattle.laws.proofs.Types.{Answer, Done, Full, Malformed, TooEarly, Order, Header, Decision, Kind, Enters, Replaces, Cancels, Modifies, Executes, BookCancels, SelfMatches, Prioritises, TurnsLate, EndsCross, TellsDay, Unknown}
-use Rattle.laws.proofs.Shapes.{Keeps, refused-keeps}
+use Rattle.laws.proofs.Types.{Answer, BadField, Done, Full, Malformed, TooEarly, Order, Header, Decision, Kind, Enters, Replaces, Cancels, Modifies, Executes, BookCancels, SelfMatches, Prioritises, TurnsLate, EndsCross, TellsDay, Unknown}
+use Rattle.laws.proofs.Shapes.{ofRules, Keeps, refused-keeps}
 use Rattle.laws.proofs.Rules.{Sane, enter-keeps, replace-keeps, cancel-keeps, modify-keeps, execution-keeps, book-cancel-keeps, self-match-keeps, priority-keeps, late-keeps, cross-done-keeps, system-keeps}
 use Rattle.laws.proofs.Given.{sane-from, live-there, from-is, holds}
 
@@ -79,10 +80,10 @@ module _ (s : List ℕ) (legal : entryAnswer s ≡ Done) where
   w = judged-good s legal .0
 
   fields-good : (isNone (badPlace (stampAt 1 .rule) 1 (part s 1 8)) ≡ true) × (noBadPlace (judgedFields (behindOf (kindOf s))) s ≡ true)
-  unfolding allLegal badPlaceOf noBadPlace
+  unfolding badPlaceOf noBadPlace
   fields-good =
       field-good (stampAt 1) (judgedFields (behindOf (kindOf s))) s
-      (ap isNone (sym (judged (kindOf s) s (formed s w .known))) ∙ judged-good s legal .1)
+      (ap isNone (sym (judged (kindOf s) s (formed s w .known)) ∙ judged-good s legal .1))
 
   pub stamp-legal : stampOf s < stampEnd
   unfolding badPlace stampOf
@@ -200,19 +201,44 @@ module _ (t s : List ℕ) (ok : Sound t) (legal : entryAnswer s ≡ Done) where
   unfolding decide
   decide-keeps = by-kind (kindOf s) refl
 
--- ---- what an entry comes to is never 'blocked'
+-- ---- what an entry comes to is never 'blocked', and 3 only where judging it says so
 
-pub unblocked : (t s : List ℕ) → Sound t → isBlocked (comesTo t s .answer) ≡ false
-unfolding comesTo withinLimits refused entryAnswer
-unblocked t s ok =
-    guard Other (not (isDone (entryAnswer s))) (λ _. judged-unblocked) λ legal.
-    guard Other (ltb (stampOf s) (header t .last)) (λ _. refl) λ _.
-    guard Other (isDone (decide t s .answer) && (noRecordFree t (decide t s .plan) || noReferenceLeft t (decide t s .plan))) (λ _. refl) λ _.
-    decide-keeps t s ok (is-done (entryAnswer s) (not-false _ legal)) .1 .1 .unblocked
-  where
-    Other : Decision → Type 0
-    Other d = isBlocked (d .answer) ≡ false
+module _ (t s : List ℕ) (ok : Sound t) where
+  -- a decision of the rules has an answer of theirs
+  decided-own : isDone (entryAnswer s) ≡ true → ofRules (decide t s .answer) ≡ true
+  decided-own legal = decide-keeps t s ok (is-done (entryAnswer s) legal) .1 .1 .own
 
-    judged-unblocked : isBlocked (entryAnswer s) ≡ false
-    judged-unblocked = guard (λ (a : Answer). isBlocked a ≡ false) (not (wellFormed s)) (λ _. refl) λ _.
-        guard (λ (a : Answer). isBlocked a ≡ false) (not (allLegal s)) (λ _. refl) λ _. refl
+  pub unblocked : isBlocked (comesTo t s .answer) ≡ false
+  unfolding comesTo withinLimits refused entryAnswer
+  unblocked =
+      guard Other (not (isDone (entryAnswer s))) (λ _. judged-unblocked) λ legal.
+      guard Other (ltb (stampOf s) (header t .last)) (λ _. refl) λ _.
+      guard Other (isDone (decide t s .answer) && (noRecordFree t (decide t s .plan) || noReferenceLeft t (decide t s .plan))) (λ _. refl) λ _.
+      not-true _ (both (not (eqb (answerNumber (decide t s .answer)) 3)) _ (decided-own (not-false _ legal)) .1)
+    where
+      Other : Decision → Type 0
+      Other d = isBlocked (d .answer) ≡ false
+
+      by-place : (o : Option ℕ) → isBlocked (badAt o ⨾ Done) ≡ false
+      by-place none = refl
+      by-place (some at) = refl
+
+      judged-unblocked : isBlocked (entryAnswer s) ≡ false
+      judged-unblocked = guard (λ (a : Answer). isBlocked a ≡ false) (not (wellFormed s)) (λ _. refl) λ _. by-place (badPlaceOf s)
+
+  pub comes-bad : (at : ℕ) → comesTo t s .answer ≡ BadField at → entryAnswer s ≡ BadField at
+  unfolding comesTo withinLimits refused
+  comes-bad at =
+      guard Judged (not (isDone (entryAnswer s))) (λ _ e. e) λ legal.
+      guard Judged (ltb (stampOf s) (header t .last)) (λ _ e. let z : _≡_ {A = ℕ} 0 1 = cc in absurd (omega arith)) λ _.
+      guard Judged (isDone (decide t s .answer) && (noRecordFree t (decide t s .plan) || noReferenceLeft t (decide t s .plan)))
+      (λ _ e. let z : _≡_ {A = ℕ} 0 1 = cc in absurd (omega arith)) λ _ e.
+      let own = both (not (eqb (answerNumber (decide t s .answer)) 3)) _ (decided-own (not-false _ legal)) .0 in
+      absurd (false≢true (ap (λ (a : Answer). not (eqb (answerNumber a) 3)) (sym e) ∙ own))
+    where
+      Judged : Decision → Type 0
+      Judged d = d .answer ≡ BadField at → entryAnswer s ≡ BadField at
+
+pub bad-comes : (t s : List ℕ) (at : ℕ) → entryAnswer s ≡ BadField at → comesTo t s .answer ≡ BadField at
+unfolding comesTo refused isDone
+bad-comes t s at e = rw e

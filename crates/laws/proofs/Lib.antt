@@ -6,6 +6,7 @@ pub mod Rules
 pub mod Clipped
 pub mod Given
 pub mod Comes
+pub mod Placed
 pub mod Sounds
 pub mod Records
 pub mod Sent

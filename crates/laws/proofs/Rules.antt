@@ -28,10 +28,9 @@ use Rattle.market.specs.Priority.{prioritisedOrder, priorityRule}
 use Rattle.market.specs.Cross.{lateRule, crossDone, crossDoneRule}
 use Rattle.market.specs.Day.{systemRule}
 use Rattle.market.proofs.Room.{passed, room}
-use Rattle.laws.specs.Blocked.{isBlocked}
 use Rattle.laws.proofs.Types.{Answer, Ignored, WrongMoment, Order, Header, Decision, Fault, EnterOrder, ReplaceOrder, CancelOrder, ModifyOrder, Execution, BookCancel, SelfMatch, Priority, System, Canceled, Modified, Replaced, Executed, AiqCancelled, PriorityUpdate}
 use Rattle.laws.proofs.Tests.{cancel-live, cancel-smaller, modify-live, modify-above, modify-within, fair-shares, good-shares, new-open}
-use Rattle.laws.proofs.Shapes.{Shaped, Changed, Born, Keeps, refused-keeps, beginning-keeps, changing-keeps, renumbering-keeps, accepting-keeps, rejecting-keeps, replacing-keeps, uncounted, recounted, ended, ended-dead}
+use Rattle.laws.proofs.Shapes.{Shaped, Changed, Born, ofRules, Keeps, refused-keeps, beginning-keeps, changing-keeps, renumbering-keeps, accepting-keeps, rejecting-keeps, replacing-keeps, uncounted, recounted, ended, ended-dead}
 
 -- All that the rules ask of an order: of live ones only, because no rule changes or counts with another
 pub record Sane (o : Order) : Type 0 where
@@ -130,17 +129,17 @@ module _ (o found : Order) (t : List ℕ) (sane : Sane o) where
   -- ---- checked as the market's entries are
 
   abbrev Other : Answer → Type 0
-  Other a = isBlocked a ≡ false
+  Other a = ofRules a ≡ true
 
   market-keeps : (moment shares : Bool) {d : Decision} → (isLive o ≡ true → Live o → shares ≡ true → Good d) → Good (allowed (marketAnswer o moment shares) d)
   unfolding allowed marketAnswer
   market-keeps moment shares keeps =
       guard Good (isDone (marketAnswer o moment shares))
       (λ done. let p = passed o moment shares done in keeps (p .alive) (sane .lives (p .alive)) (p .fair)) λ _.
-      refused-keeps (marketAnswer o moment shares) market-unblocked
+      refused-keeps (marketAnswer o moment shares) market-own
     where
-      market-unblocked : isBlocked (marketAnswer o moment shares) ≡ false
-      market-unblocked =
+      market-own : ofRules (marketAnswer o moment shares) ≡ true
+      market-own =
           guard Other (not (isLive o)) (λ _. refl) λ _. guard Other (not moment) (λ _. refl) λ _. guard Other (not shares) (λ _. refl) λ _. refl
 
   pub execution-keeps : (h : Header) (e : Execution) → Good (executionRule h o e)

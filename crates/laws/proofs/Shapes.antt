@@ -1,7 +1,8 @@
 -- The shapes that a plan may have, and what every decision of the rules keeps; first each kind of plan, then each change of a live order.
 -- Assumes nothing.
-use Rattle.octets.proofs.Proving.{Bool, List, _+_, _-_, _≡_, _≤_, arith, false, inl, inr, length, refl, true, ℕ}
+use Rattle.octets.proofs.Proving.{Bool, List, _&&_, _+_, _-_, _≡_, _≤_, arith, eqb, false, inl, inr, length, not, refl, true, ℕ}
 use Rattle.octets.specs.Bytes.{zeros}
+use Rattle.answers.specs.Answer.{answerNumber}
 use Rattle.wire.specs.Letters.{live, dead}
 use Rattle.wire.specs.Limits.{tokenSize}
 use Rattle.header.specs.Limits.{dayClosed}
@@ -104,41 +105,45 @@ abbrev pub Begun : Begins → Type 0
 Begun Nothing = Unit {0}
 Begun (Day day) = day ≤ dayClosed
 
--- what every decision of the rules keeps; none is 'blocked': that is asked of the ring alone, which the rules never see
+-- the answers of the rules' own: not 3, which judging the entry gives, and not 9: that is asked of the ring alone, which the rules never see
+abbrev pub ofRules : Answer → Bool
+ofRules a = not (eqb (answerNumber a) 3) && not (isBlocked a)
+
+-- what every decision of the rules keeps
 pub record Keeps (named found : Order) (token : List ℕ) (d : Decision) : Type 0 where
   pub shape : Shape named found token (d .plan)
   pub begins : Begun (d .plan .begins)
-  pub unblocked : isBlocked (d .answer) ≡ false
+  pub own : ofRules (d .answer) ≡ true
 
 module _ {named found : Order} {token : List ℕ} where
-  pub refused-keeps : (answer : Answer) → isBlocked answer ≡ false → Keeps named found token (refused answer)
+  pub refused-keeps : (answer : Answer) → ofRules answer ≡ true → Keeps named found token (refused answer)
   unfolding refused
-  refused-keeps answer other = record { shape = nobody refl refl refl; begins = tt; unblocked = other }
+  refused-keeps answer own = record { shape = nobody refl refl refl; begins = tt; own = own }
 
   pub beginning-keeps : (day event : ℕ) → day ≤ dayClosed → Keeps named found token (beginning day event)
   unfolding beginning
-  beginning-keeps day event known = record { shape = nobody refl refl refl; begins = known; unblocked = refl }
+  beginning-keeps day event known = record { shape = nobody refl refl refl; begins = known; own = refl }
 
   pub changing-keeps : {o : Order} {notice : Notice} → Older (subject notice) → Changed named notice o → Keeps named found token (changing o notice)
   unfolding changing
-  changing-keeps of h = record { shape = changes h refl of; begins = tt; unblocked = refl }
+  changing-keeps of h = record { shape = changes h refl of; begins = tt; own = refl }
 
   pub renumbering-keeps : {o : Order} → Changed named PriorityUpdate o → Keeps named found token (renumbering o PriorityUpdate)
   unfolding renumbering
-  renumbering-keeps h = record { shape = changes h refl tt; begins = tt; unblocked = refl }
+  renumbering-keeps h = record { shape = changes h refl tt; begins = tt; own = refl }
 
   pub accepting-keeps : {new : Order} → isUsed found ≡ false → Born token 0 (zeros tokenSize) new → Keeps named found token (accepting new)
   unfolding accepting
-  accepting-keeps free h = record { shape = accepts free refl h refl; begins = tt; unblocked = refl }
+  accepting-keeps free h = record { shape = accepts free refl h refl; begins = tt; own = refl }
 
   pub rejecting-keeps : isUsed found ≡ false → (reason : ℕ) → Keeps named found token (rejecting token reason)
   unfolding rejecting
-  rejecting-keeps free reason = record { shape = rejects free refl refl reason refl; begins = tt; unblocked = refl }
+  rejecting-keeps free reason = record { shape = rejects free refl refl reason refl; begins = tt; own = refl }
 
   pub replacing-keeps : {old new : Order} → isUsed found ≡ false → Changed named Replaced old → old .state ≡ dead
       → Born token (named .shares .executed .0) (named .token) new → Keeps named found token (replacingBy old new)
   unfolding replacingBy
-  replacing-keeps free h end born = record { shape = replaces free h end born refl; begins = tt; unblocked = refl }
+  replacing-keeps free h end born = record { shape = replaces free h end born refl; begins = tt; own = refl }
 
 -- ---- the two orders of a plan, seen one by one
 

@@ -1,6 +1,6 @@
 -- The values that the laws speak of, under their names. Assumes nothing.
 pub use Rattle.answers.specs.declared.Answer.{Answer}
-pub use Rattle.answers.specs.declared.Answer.the-variants.{Blocked, Done, Full, Ignored, Malformed, NotSound, TooEarly, WrongMoment, WrongRing}
+pub use Rattle.answers.specs.declared.Answer.the-variants.{BadField, Blocked, Done, Full, Ignored, Malformed, NotSound, TooEarly, WrongMoment, WrongRing}
 pub use Rattle.wire.specs.declared.shares.Total.{Total}
 pub use Rattle.inbound.specs.declared.enter_order.EnterOrder.{EnterOrder}
 pub use Rattle.inbound.specs.declared.replace_order.ReplaceOrder.{ReplaceOrder}

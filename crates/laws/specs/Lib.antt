@@ -1,3 +1,4 @@
 pub mod Blocked
+pub mod Places
 pub mod Messages
 pub mod Records

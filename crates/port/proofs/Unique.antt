@@ -2,7 +2,7 @@
 use Rattle.octets.proofs.Proving.{List, ap₂, ℕ}
 use contract.Lifetimes.{Lfts}
 use denote.Ref.{now}
-use Rattle.octets.proofs.Settles.{Settles, Settled, SettledBoth, _and_, _also_, settled, settled-both, one-pair}
+use Rattle.octets.proofs.Settles.{Settles, Settled, SettledBoth, _and_, _also_, settled, settled-both, one-result, one-pair}
 use Rattle.outbox.specs.declared.marks.Marks.{Marks}
 use Rattle.port.specs.Door.{marks}
 use Rattle.port.proofs as port
@@ -10,12 +10,14 @@ use Rattle.port.proofs as port
 pub fresh-unique : SettledBoth port.pq_fresh.Reads.Post
 fresh-unique κs a = settled-both
 
--- the number and the table, the ring and the marks behind the two pointers
-pub step-unique : (κs : Lfts 5) (a : _) → Settles {X = (ℕ × List ℕ) × (List ℕ × Marks)} (port.pq_step.Reads.Post κs a) (λ z e. ((z, now (e .0)), (now (e .1 .0), marks (now (e .1 .1 .0)) (now (e .1 .1 .1 .0)))))
+-- the number and the table, the ring and the marks behind two pointers, and the place behind the last
+pub step-unique : (κs : Lfts 6) (a : _) → Settles {X = ((ℕ × List ℕ) × (List ℕ × Marks)) × ℕ} (port.pq_step.Reads.Post κs a) (λ z e. (((z, now (e .0)), (now (e .1 .0), marks (now (e .1 .1 .0)) (now (e .1 .1 .1 .0)))), now (e .1 .1 .1 .1 .1 .0)))
 step-unique κs a z z′ e e′ p p′ =
-    ap₂ (λ (l : ℕ × List ℕ) (r : List ℕ × Marks). (l, r))
+    ap₂ (λ (l : (ℕ × List ℕ) × (List ℕ × Marks)) (r : ℕ). (l, r))
+    (ap₂ (λ (l : ℕ × List ℕ) (r : List ℕ × Marks). (l, r))
     (one-pair (p .numbered, p .tabled) (p′ .numbered, p′ .tabled))
-    (one-pair (p .ringed, p .marked) (p′ .ringed, p′ .marked))
+    (one-pair (p .ringed, p .marked) (p′ .ringed, p′ .marked)))
+    (one-result (p .placed) (p′ .placed))
 
 pub numbers-unique : Settled port.pq_read.Reads.Post and Settled port.pq_entry_length.Reads.Post and Settled port.pq_message_length.Reads.Post
 numbers-unique = (λ κs a. settled) also (λ κs a. settled) also (λ κs a. settled)
@@ -24,6 +26,6 @@ numbers-unique = (λ κs a. settled) also (λ κs a. settled) also (λ κs a. se
 pub release-unique : (κs : Lfts 2) (a : _) → Settles {X = ℕ × Marks} (port.pq_release.Reads.Post κs a) (λ z e. (z, marks (now (e .1 .0)) (now (e .1 .1 .0))))
 release-unique κs a z z′ e e′ p p′ = one-pair p p′
 
--- the number and the buffer
-pub echo-unique : (κs : Lfts 2) (a : _) → Settles {X = ℕ × List ℕ} (port.pq_echo.Reads.Post κs a) (λ z e. (z, now (e .1 .1 .0)))
-echo-unique κs a z z′ e e′ p p′ = one-pair p p′
+-- the number, the buffer and the place
+pub echo-unique : (κs : Lfts 3) (a : _) → Settles {X = (ℕ × ℕ) × List ℕ} (port.pq_echo.Reads.Post κs a) (λ z e. ((z, now (e .1 .1 .1 .0)), now (e .1 .1 .0)))
+echo-unique κs a z z′ e e′ p p′ = ap₂ (λ (l : ℕ × ℕ) (r : List ℕ). (l, r)) (one-pair (p .0) (p′ .0)) (one-result (p .1) (p′ .1))

@@ -5,7 +5,7 @@ use mathlib.Core.Bool.{Bool, _&&_}
 use mathlib.Core.List.{List, [], _∷_}
 use lib.ListN.{length}
 use lib.Dec.{leb, eqb}
-use Rattle.answers.specs.Answer.{answerNumber}
+use Rattle.answers.specs.Answer.{answerNumber, answerPlace}
 use Rattle.header.specs.Limits.{firmSize, mostFirms}
 use Rattle.header.specs.declared.settings.Firm.{Firm}
 use Rattle.header.specs.declared.settings.Settings.{Settings}
@@ -41,9 +41,10 @@ firmsGiven row =
 unfoldable pub settingsGiven : ℕ → List ℕ → Settings
 settingsGiven threshold row = record { threshold = total threshold; firms = firmsGiven row; count = countGiven row }
 
--- what a step leaves a C caller with: the number of the answer, and the table, the ring and the marks as they are then
-pub record Left (o : Outcome) (number : ℕ) (table ring : List ℕ) (after : Marks) : Type 0 where
+-- what a step leaves a C caller with: the number of the answer and its place (Ask 1), and the table, the ring and the marks as they are then
+pub record Left (o : Outcome) (number place : ℕ) (table ring : List ℕ) (after : Marks) : Type 0 where
   pub numbered : number ≡ answerNumber (o .answer)
+  pub placed : place ≡ answerPlace (o .answer)
   pub tabled : table ≡ o .world .table
   pub ringed : ring ≡ o .world .ring
   pub marked : after ≡ o .world .marks

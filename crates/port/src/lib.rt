@@ -1,5 +1,6 @@
 // The door for C: seven functions, five of them over lent memory. Each hands its arguments to a proved function and an answer's number back, and asks
-// nothing that a C caller could break but that its pointers and lengths are true.
+// nothing that a C caller could break but that its pointers and lengths are true. Where bytes are judged, the place that the answer tells is written
+// by every call.
 mod settings;
 
 use crate::settings::settings_given;
@@ -16,7 +17,7 @@ ghost use mathlib.Core.Path.{_≡_};
 ghost use mathlib.Core.Bool.{not};
 ghost use lib.Dec.{eqb};
 ghost use lib.ListN.{length};
-ghost use Rattle.answers.specs.Answer.{answerNumber};
+ghost use Rattle.answers.specs.Answer.{answerNumber, answerPlace};
 ghost use Rattle.table.specs.Fresh.{freshAnswer, freshTable};
 ghost use Rattle.outbox.specs.Outbox.{readRun, releaseAnswer, releaseMarks};
 ghost use Rattle.echo.specs.Echo.{messageAnswer, messageEchoed};
@@ -33,7 +34,7 @@ pub extern "C" fn pq_fresh(table: &mut [u8], threshold: u32, firms: &[u8]) -> u8
     number(fresh(table, settings_given(threshold, firms)))
 }
 
-// One entry. The marks stand behind two pointers.
+// One entry. The marks stand behind two pointers, and the place of the answer is written behind a third.
 #[no_mangle]
 pub extern "C" fn pq_step(
     table: &mut [u8],
@@ -41,8 +42,9 @@ pub extern "C" fn pq_step(
     at: &mut usize,
     held: &mut usize,
     entry: &[u8],
+    place: &mut usize,
 ) -> u8
-    ensures { λ r. ⌜ Left (step (world (now (table .entry)) (now (ring .entry)) (marks (now (at .entry)) (now (held .entry)))) (now (entry .entry))) r (now (table .exit)) (now (ring .exit)) (marks (now (at .exit)) (now (held .exit))) ⌝ }
+    ensures { λ r. ⌜ Left (step (world (now (table .entry)) (now (ring .entry)) (marks (now (at .entry)) (now (held .entry)))) (now (entry .entry))) r (now (place .exit)) (now (table .exit)) (now (ring .exit)) (marks (now (at .exit)) (now (held .exit))) ⌝ }
 {
     let stepped = step(
         table,
@@ -57,6 +59,7 @@ pub extern "C" fn pq_step(
     *at = after.at;
     *held = after.held;
     let answer = stepped.answer;
+    *place = answers::place(answer);
     number(answer)
 }
 
@@ -90,12 +93,15 @@ pub extern "C" fn pq_release(n: usize, at: &mut usize, held: &mut usize, k: usiz
     number(answer)
 }
 
-// A message read, as inbound where `inbound` is not 0, and written back into `out`.
+// A message read, as inbound where `inbound` is not 0, and written back into `out`. The place of the answer is written, too.
 #[no_mangle]
-pub extern "C" fn pq_echo(inbound: u8, message: &[u8], out: &mut [u8]) -> u8
-    ensures { λ r. ⌜ (r ≡ answerNumber (messageAnswer (not (eqb inbound 0)) (now (message .entry)) (now (out .entry)))) × (now (out .exit) ≡ messageEchoed (not (eqb inbound 0)) (now (message .entry)) (now (out .entry))) ⌝ }
+pub extern "C" fn pq_echo(inbound: u8, message: &[u8], out: &mut [u8], place: &mut usize) -> u8
+    ensures { λ r. ⌜ (r ≡ answerNumber (messageAnswer (not (eqb inbound 0)) (now (message .entry)) (now (out .entry)))) × (now (place .exit) ≡ answerPlace (messageAnswer (not (eqb inbound 0)) (now (message .entry)) (now (out .entry)))) ⌝ }
+    ensures { λ _. ⌜ now (out .exit) ≡ messageEchoed (not (eqb inbound 0)) (now (message .entry)) (now (out .entry)) ⌝ }
 {
-    number(echo(inbound != 0, message, out))
+    let echoed = echo(inbound != 0, message, out);
+    *place = answers::place(echoed);
+    number(echoed)
 }
 
 // The length of an entry of this kind, kind byte and stamp included, so that no driver keeps a table of its own; 0 for no kind.

@@ -1,6 +1,7 @@
 // A tape, one line an entry.
 ghost use mathlib.Core.Path.{_≡_};
 ghost use lib.ListN.{length};
+use crate::bad::point_at;
 use crate::words::end_line;
 use crate::words::say_firm;
 use crate::words::say_head;
@@ -12,6 +13,7 @@ use crate::words::say_stamp;
 use crate::words::say_stock;
 use crate::words::say_token;
 use answers::is_done;
+use answers::place;
 use tape::judging::judge;
 use tape::kinds::Kind;
 use tape::kinds::kind_of;
@@ -27,13 +29,21 @@ use tape::reading::stamp_of;
 use tape::reading::system_of;
 use tape::reading::token_of;
 
-// By the kind. An entry with a bad field is shown by its answer alone.
+// By the kind. An entry that is bad in itself is shown by its answer, and with a bad field by a line that points at its first bad byte.
 pub(crate) fn show_entry(s: &[u8]) -> bool {
     let answer = judge(s);
     if is_done(answer) {
         return show_legal(s);
     }
-    say_refused(b"Entry", answer)
+    let shown = say_refused(b"Entry", answer);
+    let at = place(answer);
+    if at == 0 {
+        return shown;
+    }
+    if s.len() <= at {
+        return shown;
+    }
+    point_at(s, at)
 }
 
 // What was judged has its kind's length. The readers ask for it, so it is asked for once more.

@@ -20,7 +20,7 @@ module _ (t : List ℕ) (s : Settings) where
   unfolding freshAnswer
   done-means e = go (sizeGood t) (settingsGood s) e
     where
-      go : (a b : Bool) → (firstOf not a ⇒ NotSound ⨾ not b ⇒ BadField ⨾ Done) ≡ Done → (a ≡ true) × (b ≡ true)
+      go : (a b : Bool) → (firstOf not a ⇒ NotSound ⨾ not b ⇒ BadField 0 ⨾ Done) ≡ Done → (a ≡ true) × (b ≡ true)
       go true true e = (refl, refl)
       go true false e = let z : _≡_ {A = ℕ} 0 1 = cc in absurd (omega arith)
       go false b e = let z : _≡_ {A = ℕ} 0 1 = cc in absurd (omega arith)

@@ -12,12 +12,12 @@ use Rattle.header.specs.Settings.{settingsGood, freshHeader}
 use Rattle.header.specs.declared.settings.Settings.{Settings}
 use Rattle.table.specs.Table.{sizeGood, storeHeader}
 
--- it refuses a bad length with 10, then bad settings with 3
+-- it refuses a bad length with 10, then bad settings with 3, which are no bytes: its place is 0 whatever it answers (Ask 1)
 unfoldable pub freshAnswer : List ℕ → Settings → Answer
 freshAnswer t s =
     firstOf
     not (sizeGood t) ⇒ NotSound
-    ⨾ not (settingsGood s) ⇒ BadField
+    ⨾ not (settingsGood s) ⇒ BadField 0
     ⨾ Done
 
 -- it writes day 0, used 0, stamp 0, reference 1, these settings, and zeros elsewhere

@@ -31,7 +31,7 @@ fn fresh_answer(table: &[u8], settings: Settings) -> Answer
     first_of(
         !size_good(table),
         Answer::NotSound,
-        first_of(!settings_good(settings), Answer::BadField, Answer::Done),
+        first_of(!settings_good(settings), Answer::BadField(0), Answer::Done),
     )
 }
 

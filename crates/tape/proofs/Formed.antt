@@ -3,12 +3,14 @@ use Rattle.octets.proofs.Proving.{Bool, List, Option, [], _&&_, _∙_, _∷_, _
 use Rattle.octets.specs.Bytes.{part}
 use Rattle.octets.specs.Choice.{firstOf_, _⇒_⨾_}
 use Rattle.octets.proofs.Below.{both}
-use Rattle.answers.specs.declared.Answer.the-variants.{Malformed, BadField, Done}
-use Rattle.wire.specs.Layout.{Field, stampAt, place, badPlace, firstBadPlace, orElse, isNone, earlierOf}
-use Rattle.wire.specs.declared.places.Place.{Place}
+use Rattle.answers.specs.declared.Answer.the-variants.{Malformed, Done}
+use Rattle.wire.specs.Layout.{stampAt, place, badPlace, firstBadPlace, unbroken}
+use Rattle.wire.specs.Messages.{placeAnswer}
+use Rattle.wire.proofs.Found.{not-at-0}
+use Rattle.wire.proofs.Verdicts.{told}
 use Rattle.tape.specs.Kinds.{Kind, Enters, Replaces, Cancels, Modifies, Executes, BookCancels, SelfMatches, Prioritises, TurnsLate, EndsCross, TellsDay, Unknown, kindOf, layoutOf}
-use Rattle.tape.specs.Entries.{wellFormed, badPlaceOf, allLegal, entryAnswer}
-use Rattle.tape.specs.Behind.{behindOf, judgedFields, Within, answerFor}
+use Rattle.tape.specs.Entries.{wellFormed, badPlaceOf, entryAnswer}
+use Rattle.tape.specs.Behind.{behindOf, judgedFields, Within}
 
 -- ---- lengths
 
@@ -80,42 +82,27 @@ judged EndsCross s h = refl
 judged TellsDay s h = refl
 judged Unknown s h = absurd (h refl)
 
--- what looking at one field finds
-abbrev pub Finds : Field → List ℕ → Place → Type 0
-Finds f s r = r ≡ place (badPlace (f .rule) (f .at) (part s (f .at) (f .width)))
-
-then : (a b : Option ℕ) → earlierOf (place a) (place b) ≡ place (orElse a b)
-then none b = refl
-then (some at) b = refl
-
--- a field, and what was found behind it
-pub behind : (f : Field) (fs : List Field) (s : List ℕ) {r p q : Place} → r ≡ earlierOf p q → Finds f s p → q ≡ place (firstBadPlace fs s)
-    → r ≡ place (firstBadPlace (f ∷ fs) s)
-unfolding firstBadPlace
-behind f fs s e x y = e ∙ ap₂ earlierOf x y ∙ then (badPlace (f .rule) (f .at) (part s (f .at) (f .width))) (firstBadPlace fs s)
-
--- one field, two, or three in a row
-
-alone : (a : Option ℕ) → place a ≡ place (orElse a none)
-alone none = refl
-alone (some at) = refl
-
-pub one : (f : Field) (s : List ℕ) {r : Place} → Finds f s r → r ≡ place (firstBadPlace (f ∷ []) s)
-unfolding firstBadPlace
-one f s e = e ∙ alone (badPlace (f .rule) (f .at) (part s (f .at) (f .width)))
-
-pub two : (f g : Field) (s : List ℕ) {r p q : Place} → r ≡ earlierOf p q → Finds f s p → Finds g s q → r ≡ place (firstBadPlace (f ∷ g ∷ []) s)
-two f g s e x y = behind f (g ∷ []) s e x (one g s y)
+-- the fields of a kind stand one behind the other, from the stamp on
+pub well-laid : (kind : Kind) → (layoutOf kind .size ≡ 0 → ⊥) → unbroken 1 (layoutOf kind .size) (layoutOf kind .fields) ≡ true
+unfolding unbroken
+well-laid Enters h = refl
+well-laid Replaces h = refl
+well-laid Cancels h = refl
+well-laid Modifies h = refl
+well-laid Executes h = refl
+well-laid BookCancels h = refl
+well-laid SelfMatches h = refl
+well-laid Prioritises h = refl
+well-laid TurnsLate h = refl
+well-laid EndsCross h = refl
+well-laid TellsDay h = refl
+well-laid Unknown h = absurd (h refl)
 
 -- ---- 2, 3 or neither
 
-by-place : (p : Option ℕ) → answerFor (place p) ≡ (firstOf not (isNone p) ⇒ BadField ⨾ Done)
-by-place none = refl
-by-place (some at) = refl
-
-pub answer-judged : (s : List ℕ) → wellFormed s ≡ true → answerFor (place (badPlaceOf s)) ≡ entryAnswer s
-unfolding entryAnswer allLegal
-answer-judged s w = by-place (badPlaceOf s) ∙ sym (rw w)
+pub answer-judged : (s : List ℕ) → wellFormed s ≡ true → placeAnswer (place (badPlaceOf s)) Done ≡ entryAnswer s
+unfolding entryAnswer badPlaceOf
+answer-judged s w = told (badPlaceOf s) Done (not-at-0 (layoutOf (kindOf s) .fields) (layoutOf (kindOf s) .size) (well-laid (kindOf s) (formed s w .known)) s) ∙ sym (rw w)
 
 pub answer-malformed : (s : List ℕ) → wellFormed s ≡ false → Malformed ≡ entryAnswer s
 unfolding entryAnswer

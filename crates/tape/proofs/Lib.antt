@@ -1,3 +1,4 @@
 pub mod Opened
 pub mod Formed
+pub mod Judged
 pub mod Unique

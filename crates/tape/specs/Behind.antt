@@ -1,12 +1,8 @@
 -- What is judged behind an entry's stamp, by kind. This is about inner functions: that each kind's layout judges just this is proved.
 use Prim.Native.Nat.{ℕ, _+_, _<_, _≤_}
 use mathlib.Core.List.{List, [], _∷_}
-use Rattle.answers.specs.declared.Answer.{Answer}
-use Rattle.answers.specs.declared.Answer.the-variants.{Done, BadField}
 use Rattle.wire.specs.Layout.{Field, tokenAt, liquidityAt, bookReasonAt, systemEventAt, limitPriceAt}
 use Rattle.wire.specs.Messages.{messageLayout, fieldsFrom}
-use Rattle.wire.specs.declared.places.Place.{Place}
-use Rattle.wire.specs.declared.places.Place.the-variants.{Nowhere, At}
 use Rattle.tape.specs.Kinds.{Kind, Enters, Replaces, Cancels, Modifies, Executes, BookCancels, SelfMatches, Prioritises, TurnsLate, EndsCross, TellsDay, Unknown}
 pub use Rattle.tape.specs.declared.judging.Behind.{Behind}
 pub use Rattle.tape.specs.declared.judging.Behind.the-variants.{Message, Token, Flag, Reason, Price, Event, Nothing}
@@ -43,8 +39,3 @@ Within (Reason at) n = (23 ≤ n) × (at < n)
 Within Price n = 27 ≤ n
 Within Event n = 9 < n
 Within Nothing n = Unit {0}
-
--- what a first bad place answers
-abbrev pub answerFor : Place → Answer
-answerFor Nowhere = Done
-answerFor (At at) = BadField

@@ -7,8 +7,9 @@ use lib.ListN.{length, drop}
 use lib.Dec.{leb, eqb}
 use Rattle.octets.specs.Choice.{firstOf_, _⇒_⨾_}
 use Rattle.answers.specs.declared.Answer.{Answer}
-use Rattle.answers.specs.declared.Answer.the-variants.{Done, Malformed, BadField}
-use Rattle.wire.specs.Layout.{stampAt, tokenAt, firstBadPlace, isNone, get, reading}
+use Rattle.answers.specs.declared.Answer.the-variants.{Done, Malformed}
+use Rattle.wire.specs.Layout.{stampAt, tokenAt, firstBadPlace, get, reading}
+use Rattle.wire.specs.Messages.{badAt_⨾_}
 use Rattle.wire.specs.Shares.{removed}
 use Rattle.inbound.specs.Inbound.{enterOrderOf, replaceOrderOf, cancelOrderOf, modifyOrderOf}
 use Rattle.inbound.specs.declared.enter_order.EnterOrder.{EnterOrder}
@@ -34,15 +35,12 @@ wellFormed s =
 unfoldable pub badPlaceOf : List ℕ → Option ℕ
 badPlaceOf s = firstBadPlace (layoutOf (kindOf s) .fields) s
 
-unfoldable pub allLegal : List ℕ → Bool
-allLegal s = isNone (badPlaceOf s)
-
--- what judging an entry answers
+-- what judging an entry answers; the place that 3 tells is counted from the kind byte as 0 (Ask 1)
 unfoldable pub entryAnswer : List ℕ → Answer
 entryAnswer s =
     firstOf
     not (wellFormed s) ⇒ Malformed
-    ⨾ not (allLegal s) ⇒ BadField
+    ⨾ badAt badPlaceOf s
     ⨾ Done
 
 -- ---- reading

@@ -2,3 +2,4 @@ pub mod Kinds
 pub mod Entries
 pub mod Cutting
 pub mod Behind
+pub mod Judged

@@ -8,7 +8,8 @@ use wire::messages::CANCEL_ORDER;
 use wire::messages::ENTER_ORDER;
 use wire::messages::MODIFY_ORDER;
 use wire::messages::REPLACE_ORDER;
-use wire::places::Place;
+use wire::places::NOWHERE;
+use wire::places::answer_for;
 use wire::places::bad_book_reason;
 use wire::places::bad_limit_price;
 use wire::places::bad_liquidity_flag;
@@ -22,15 +23,15 @@ ghost use lib.ListN.{length};
 ghost use Rattle.wire.specs.Layout.{place, firstBadPlace};
 ghost use Rattle.tape.specs.Kinds.{kindOf};
 ghost use Rattle.tape.specs.Entries.{wellFormed, badPlaceOf, entryAnswer};
-ghost use Rattle.tape.specs.Behind.{behindOf, judgedFields, Within, answerFor};
+ghost use Rattle.tape.specs.Behind.{behindOf, judgedFields, Within};
 
-// 2 for a kind or a length, 3 where there is a first bad place. (Where it is, nobody asks yet.)
+// 2 for a kind or a length, 3 where there is a first bad place, with that place.
 pub fn judge(entry: &[u8]) -> Answer
     ensures { λ r. ⌜ r ≡ entryAnswer (now (entry .entry)) ⌝ }
 {
     let kind = kind_of(entry);
     if well_formed(entry, kind) {
-        return answer_for(first_bad(entry, kind));
+        return answer_for(first_bad(entry, kind), Answer::Done);
     }
     Answer::Malformed
 }
@@ -45,7 +46,7 @@ fn well_formed(entry: &[u8], kind: Kind) -> bool
 }
 
 // Every body opens with a stamp.
-fn first_bad(entry: &[u8], kind: Kind) -> Place
+fn first_bad(entry: &[u8], kind: Kind) -> usize
     requires { ⌜ (kind ≡ kindOf (now entry)) × (wellFormed (now entry) ≡ true) ⌝ }
     ensures { λ r. ⌜ r ≡ place (badPlaceOf (now (entry .entry))) ⌝ }
 {
@@ -85,7 +86,7 @@ fn behind_of(kind: Kind) -> Behind
     }
 }
 
-fn bad_behind(entry: &[u8], behind: Behind) -> Place
+fn bad_behind(entry: &[u8], behind: Behind) -> usize
     requires { ⌜ Within behind (length (now entry)) ⌝ }
     ensures { λ r. ⌜ r ≡ place (firstBadPlace (judgedFields behind) (now (entry .entry))) ⌝ }
 {
@@ -96,15 +97,6 @@ fn bad_behind(entry: &[u8], behind: Behind) -> Place
         Behind::Reason(at) => earlier(bad_token(entry, 9), bad_book_reason(entry, at)),
         Behind::Price => earlier(bad_token(entry, 9), bad_limit_price(entry, 23)),
         Behind::Event => bad_system_event(entry, 9),
-        Behind::Nothing => Place::Nowhere,
-    }
-}
-
-fn answer_for(bad: Place) -> Answer
-    ensures { λ r. ⌜ r ≡ answerFor bad ⌝ }
-{
-    match bad {
-        Place::Nowhere => Answer::Done,
-        Place::At(_) => Answer::BadField,
+        Behind::Nothing => NOWHERE,
     }
 }

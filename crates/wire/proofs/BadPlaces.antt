@@ -69,6 +69,10 @@ bad-inside (oneOf letters) at xs q b = (omega (arith, b .0), omega (arith, b .0)
 bad-inside legalToken at xs q b = (omega (arith, b .1 .0), omega (arith, b .1 .0, b .1 .1 .0))
 bad-inside allZero at xs q b = (omega (arith, b .1 .0), omega (arith, b .1 .0, b .1 .1 .0))
 
+-- and so does the place that is found
+pub bad-from : (rule : Rule) (at : ℕ) (xs : List ℕ) {p : ℕ} → badPlace rule at xs ≡ some p → at ≤ p
+bad-from rule at xs {p} h = bad-inside rule at xs p (bad-there rule at xs p h) .0
+
 bad-first : (rule : Rule) (at : ℕ) (xs : List ℕ) (p : ℕ) → badPlace rule at xs ≡ some p → (q : ℕ) → BadByte rule at xs q → p ≤ q
 unfolding badPlace BadByte
 bad-first free at xs p h q b = absurd b
@@ -152,3 +156,17 @@ first-bad (g ∷ fs) at size s p u h =
           (List·Memᴰ·cases-cons m);
     })
     (either (badPlace (g .rule) (g .at) xs) (firstBadPlace fs s) h)
+
+-- ---- there is one first bad place at most, none where all obey, and none before the fields
+
+module _ (fs : List Field) (s : List ℕ) where
+  pub one-first : {p q : ℕ} → FirstBad fs s p → FirstBad fs s q → p ≡ q
+  one-first a b = omega (arith, a .first (b .field) (b .among) _ (b .bad), b .first (a .field) (a .among) _ (a .bad))
+
+  pub none-first : AllObey fs s → {p : ℕ} → FirstBad fs s p → ⊥
+  none-first h b = let f = b .field in none-bad (f .rule) (f .at) (part s (f .at) (f .width)) (h f (b .among)) _ (b .bad)
+
+  pub first-from : (at size : ℕ) → unbroken at size fs ≡ true → {p : ℕ} → FirstBad fs s p → at ≤ p
+  first-from at size u b =
+      let f = b .field in
+      omega (arith, behind fs at size u f (b .among), bad-inside (f .rule) (f .at) (part s (f .at) (f .width)) _ (b .bad) .0)

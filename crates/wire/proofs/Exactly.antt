@@ -1,48 +1,48 @@
--- A reader's answers are given exactly when the paper says: 0 to the legal messages, 2 to those of another length or type, 3 to the rest.
+-- A reader's answers are given exactly when the paper says: 0 to the legal messages, 2 to those of another length or type, 3 to the rest, with
+-- the smallest offset of a bad byte.
 -- Assumes nothing.
-use Rattle.octets.proofs.Proving.{List, Option, _<_, _∙_, _≡_, ap, arith, eqb, eqb-false, eqb-true, getD, length, none, refl, some, sym, true, ℕ, ⊎-elim}
-use Rattle.answers.specs.declared.Answer.the-variants.{Done, Malformed, BadField}
+use Rattle.octets.proofs.Proving.{Bool, List, Option, _<_, _∙_, _≡_, arith, eqb, eqb-false, eqb-true, false, getD, length, ltb, none, refl, some, sym, true, ℕ, ⊎-elim}
+use Rattle.octets.specs.Choice.{_⇒_⨾_}
+use Rattle.answers.specs.declared.Answer.the-variants.{Done, Malformed, BadField, NoRoom}
 use Rattle.octets.specs.Bytes.{part, numberOf}
 use Rattle.wire.specs.Letters.{sides, sweeps}
 use Rattle.wire.specs.Limits.{stampEnd, tokenSize}
-use Rattle.wire.specs.Layout.{Layout, stampAt, tokenAt, sideAt, sweepAt, isNone, firstBadPlace, noBadPlace, wellLaid}
-use Rattle.wire.specs.Messages.{readAnswer}
-use Rattle.wire.specs.Legal.{LetterDigitOrSpace, OneOf, Obeys, _∈_, AllObey, Legal, FirstBad, _exactlyWhen_}
+use Rattle.wire.specs.Layout.{Layout, stampAt, tokenAt, sideAt, sweepAt, firstBadPlace, wellLaid}
+use Rattle.wire.specs.Messages.{badAt_⨾_, readAnswer, writeAnswer}
+use Rattle.wire.specs.Legal.{LetterDigitOrSpace, OneOf, Obeys, _∈_, Legal, FirstBad, _exactlyWhen_, PlaceWith3}
 use Rattle.wire.proofs.Says.{seen}
-use Rattle.wire.proofs.Verdicts.{wrong-length, wrong-type, bad-field, legal}
-use Rattle.wire.proofs.FirstNot.{no-place}
-use Rattle.wire.proofs.BadPlaces.{all-obey, no-bad-place, first-bad}
+use Rattle.wire.proofs.Verdicts.{wrong-length, wrong-type, judged, bad-field, legal}
+use Rattle.wire.proofs.BadPlaces.{all-obey, no-bad-place, first-from}
+use Rattle.wire.proofs.Told.{told-exactly, place-with-3}
 
 -- the three ways that a reading can go
 pub data Way (l : Layout) (s : List ℕ) : Type 0 where
   malformed : readAnswer l s ≡ Malformed → ((length s ≡ l .size) × (getD s 0 0 ≡ l .code) → ⊥) → Way l s
-  bad : readAnswer l s ≡ BadField → length s ≡ l .size → getD s 0 0 ≡ l .code → (AllObey (l .fields) s → ⊥) → Way l s
+  bad : (at : ℕ) → readAnswer l s ≡ BadField at → length s ≡ l .size → getD s 0 0 ≡ l .code → Way l s
   done : readAnswer l s ≡ Done → Legal l s → Way l s
 
 module _ (l : Layout) (s : List ℕ) where
-  judged : length s ≡ l .size → getD s 0 0 ≡ l .code → (o : Option ℕ) → firstBadPlace (l .fields) s ≡ o → Way l s
-  unfolding noBadPlace
-  judged e t none p = done (legal l s e t (ap isNone p)) (record { long = e; typed = t; judged = all-obey (l .fields) s p })
-  judged e t (some i) p = bad (bad-field l s e t (ap isNone p)) e t (λ h. no-place (sym (no-bad-place (l .fields) s h) ∙ p))
+  by-place : length s ≡ l .size → getD s 0 0 ≡ l .code → (o : Option ℕ) → firstBadPlace (l .fields) s ≡ o → Way l s
+  by-place e t none p = done (legal l s e t p) (record { long = e; typed = t; judged = all-obey (l .fields) s p })
+  by-place e t (some i) p = bad i (bad-field l s e t p) e t
 
   pub way : Way l s
   way =
       ⊎-elim
       (λ e.
       ⊎-elim
-      (λ t. judged (eqb-true _ _ e) (eqb-true _ _ t) (firstBadPlace (l .fields) s) refl)
+      (λ t. by-place (eqb-true _ _ e) (eqb-true _ _ t) (firstBadPlace (l .fields) s) refl)
       (λ t. malformed (wrong-type l s (eqb-true _ _ e) (eqb-false _ _ t)) (λ h. eqb-false _ _ t (h .1)))
       (seen (eqb (getD s 0 0) (l .code))))
       (λ e. malformed (wrong-length l s (eqb-false _ _ e)) (λ h. eqb-false _ _ e (h .0)))
       (seen (eqb (length s) (l .size)))
 
   pub done-exactly : (readAnswer l s ≡ Done) exactlyWhen Legal l s
-  unfolding noBadPlace
-  done-exactly = (λ a. from a way, λ h. legal l s (h .long) (h .typed) (ap isNone (no-bad-place (l .fields) s (h .judged))))
+  done-exactly = (λ a. from a way, λ h. legal l s (h .long) (h .typed) (no-bad-place (l .fields) s (h .judged)))
     where
       from : readAnswer l s ≡ Done → Way l s → Legal l s
       from a (malformed e h) = let z : _≡_ {A = ℕ} 0 1 = cc in absurd (omega arith)
-      from a (bad e h t b) = let z : _≡_ {A = ℕ} 0 1 = cc in absurd (omega arith)
+      from a (bad i e h t) = let z : _≡_ {A = ℕ} 0 1 = cc in absurd (omega arith)
       from a (done e h) = h
 
   pub malformed-exactly : (readAnswer l s ≡ Malformed) exactlyWhen ((length s ≡ l .size) × (getD s 0 0 ≡ l .code) → ⊥)
@@ -50,31 +50,44 @@ module _ (l : Layout) (s : List ℕ) where
     where
       from : readAnswer l s ≡ Malformed → Way l s → (length s ≡ l .size) × (getD s 0 0 ≡ l .code) → ⊥
       from a (malformed e h) = h
-      from a (bad e h t b) = let z : _≡_ {A = ℕ} 0 1 = cc in absurd (omega arith)
+      from a (bad i e h t) = let z : _≡_ {A = ℕ} 0 1 = cc in absurd (omega arith)
       from a (done e h) = let z : _≡_ {A = ℕ} 0 1 = cc in absurd (omega arith)
 
       to : ((length s ≡ l .size) × (getD s 0 0 ≡ l .code) → ⊥) → Way l s → readAnswer l s ≡ Malformed
       to h (malformed e g) = e
-      to h (bad e g t b) = absurd (h (g, t))
+      to h (bad i e g t) = absurd (h (g, t))
       to h (done e g) = absurd (h (g .long, g .typed))
 
-  pub bad-field-exactly : (readAnswer l s ≡ BadField) exactlyWhen (((length s ≡ l .size) × (getD s 0 0 ≡ l .code)) × (AllObey (l .fields) s → ⊥))
-  bad-field-exactly = (λ a. from a way, λ h. to h way)
+  module _ (well : wellLaid l ≡ true) where
+    pub bad-field-exactly : (at : ℕ) → (readAnswer l s ≡ BadField at) exactlyWhen (((length s ≡ l .size) × (getD s 0 0 ≡ l .code)) × FirstBad (l .fields) s at)
+    unfolding wellLaid
+    bad-field-exactly at = (λ a. from a way, λ h. judged l s (h .0 .0) (h .0 .1) ∙ told .1 (h .1))
+      where
+        told : ((badAt firstBadPlace (l .fields) s ⨾ Done) ≡ BadField at) exactlyWhen FirstBad (l .fields) s at
+        told = told-exactly (l .fields) (l .size) well s Done (λ i e. let z : _≡_ {A = ℕ} 0 1 = cc in omega arith) at
+
+        from : readAnswer l s ≡ BadField at → Way l s → ((length s ≡ l .size) × (getD s 0 0 ≡ l .code)) × FirstBad (l .fields) s at
+        from a (malformed e h) = let z : _≡_ {A = ℕ} 0 1 = cc in absurd (omega arith)
+        from a (bad i e h t) = ((h, t), told .0 (sym (judged l s h t) ∙ a))
+        from a (done e h) = let z : _≡_ {A = ℕ} 0 1 = cc in absurd (omega arith)
+
+    pub read-place : PlaceWith3 (readAnswer l s)
+    unfolding wellLaid
+    read-place = place-with-3 (readAnswer l s) (λ at a. first-from (l .fields) s 1 (l .size) well (bad-field-exactly at .0 a .1))
+
+-- a writer's, of the bytes that it is to write
+module _ (l : Layout) (well : wellLaid l ≡ true) (m buffer : List ℕ) where
+  pub write-bad-exactly : (at : ℕ) → (writeAnswer l m buffer ≡ BadField at) exactlyWhen FirstBad (l .fields) m at
+  unfolding wellLaid writeAnswer
+  write-bad-exactly at = told-exactly (l .fields) (l .size) well m _ (λ i e. other (ltb (length buffer) (l .size)) e) at
     where
-      from : readAnswer l s ≡ BadField → Way l s → ((length s ≡ l .size) × (getD s 0 0 ≡ l .code)) × (AllObey (l .fields) s → ⊥)
-      from a (malformed e h) = let z : _≡_ {A = ℕ} 0 1 = cc in absurd (omega arith)
-      from a (bad e h t b) = ((h, t), b)
-      from a (done e h) = let z : _≡_ {A = ℕ} 0 1 = cc in absurd (omega arith)
+      other : (b : Bool) {i : ℕ} → (b ⇒ NoRoom ⨾ Done) ≡ BadField i → ⊥
+      other true e = let z : _≡_ {A = ℕ} 0 1 = cc in omega arith
+      other false e = let z : _≡_ {A = ℕ} 0 1 = cc in omega arith
 
-      to : ((length s ≡ l .size) × (getD s 0 0 ≡ l .code)) × (AllObey (l .fields) s → ⊥) → Way l s → readAnswer l s ≡ BadField
-      to h (malformed e g) = absurd (g (h .0))
-      to h (bad e g t b) = e
-      to h (done e g) = absurd (h .1 (g .judged))
-
-  -- the first bad place is the smallest offset of a bad byte
-  pub smallest-offset : wellLaid l ≡ true → (p : ℕ) → firstBadPlace (l .fields) s ≡ some p → FirstBad (l .fields) s p
+  pub write-place : PlaceWith3 (writeAnswer l m buffer)
   unfolding wellLaid
-  smallest-offset well p h = first-bad (l .fields) 1 (l .size) s p well h
+  write-place = place-with-3 (writeAnswer l m buffer) (λ at a. first-from (l .fields) m 1 (l .size) well (write-bad-exactly at .0 a))
 
 -- ---- a legal message's fields, in the paper's words
 

@@ -4,10 +4,12 @@ pub mod Shapes
 pub mod Tokens
 pub mod Numbered
 pub mod Verdicts
+pub mod Told
 pub mod Layouts
 pub mod Says
 pub mod FirstNot
 pub mod BadPlaces
+pub mod Found
 pub mod Exactly
 pub mod NoneBad
 pub mod Puts

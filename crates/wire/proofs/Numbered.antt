@@ -6,7 +6,9 @@ use Rattle.octets.proofs.Below.{all-at, both}
 use Rattle.octets.specs.Bytes.{part}
 use Rattle.octets.specs.Choice.{pick, allBelow}
 use Rattle.wire.specs.Limits.{stampEnd, longestMessage}
-use Rattle.wire.specs.Layout.{Layout, Field, shifted, Place, Nowhere, below, legalToken, place, earlierOf, badPlace, orElse, firstBadPlace, layoutFor, unbroken, wellLaid, gapsAreZero}
+use Rattle.wire.specs.Layout.{Layout, Field, shifted, stampAt, tokenAt, place, badPlace, firstBadPlace, layoutFor, unbroken, wellLaid, gapsAreZero}
+use Rattle.wire.proofs.FirstNot.{no-place}
+use Rattle.wire.proofs.Found.{not-at-0}
 use Rattle.wire.specs.Messages.{messages, noMessage, messageLayout, sizeOr0, lengthFor}
 
 -- ---- a claim on every number below n, given one by one
@@ -68,7 +70,7 @@ no-length k h = ap (λ (l : Layout). l .size) (no-message k h)
 pub no-type : (k : ℕ) → 16 ≤ k → messageLayout k .code ≡ 0
 no-type k h = ap (λ (l : Layout). l .code) (no-message k h)
 
-pub no-message-place : (k : ℕ) (s : List ℕ) → 16 ≤ k → place (firstBadPlace (messageLayout k .fields) s) ≡ Nowhere
+pub no-message-place : (k : ℕ) (s : List ℕ) → 16 ≤ k → place (firstBadPlace (messageLayout k .fields) s) ≡ 0
 unfolding firstBadPlace
 no-message-place k s h = ap (λ (l : Layout). place (firstBadPlace (l .fields) s)) (no-message k h)
 
@@ -85,11 +87,11 @@ at-most-longest k =
 laid : Layout → Bool
 laid l = wellLaid l && (gapsAreZero (l .fields) && ltb (l .code) 256)
 
-pub well-laid : (k : ℕ) → T (ltb k 16)
+pub well-laid : (k : ℕ) → k < 16
     → (wellLaid (messageLayout k) ≡ true) × ((gapsAreZero (messageLayout k .fields) ≡ true) × (messageLayout k .code < 256))
 unfolding allBelow Tests laid wellLaid unbroken gapsAreZero
 well-laid k h =
-    let a = both (wellLaid (messageLayout k)) _ (tested (λ (j : ℕ). laid (messageLayout j)) 16 refl k (lit< h)) in
+    let a = both (wellLaid (messageLayout k)) _ (tested (λ (j : ℕ). laid (messageLayout j)) 16 refl k h) in
     let b = both (gapsAreZero (messageLayout k .fields)) _ (a .1) in
     (a .0, (b .0, ltb-true (messageLayout k .code) 256 (b .1)))
 
@@ -152,34 +154,29 @@ among-end k to letter h =
 
 -- ---- the places that the judge asks about, as code hands them about
 
-pub place-earlier : (x y : Option ℕ) → place (orElse x y) ≡ earlierOf (place x) (place y)
-place-earlier none y = refl
-place-earlier (some at) y = refl
-
-pub or-none : (x : Option ℕ) → orElse x none ≡ x
-or-none none = refl
-or-none (some at) = refl
-
-abbrev tokenPlace : ℕ → List ℕ → Place
-tokenPlace at s = place (badPlace legalToken at (part s at 14))
-
-abbrev stampPlace : ℕ → List ℕ → Place
-stampPlace at s = place (badPlace (below stampEnd) at (part s at 8))
-
 -- message k's
-abbrev firstOfMessage : ℕ → List ℕ → Place
+abbrev firstOfMessage : ℕ → List ℕ → ℕ
 firstOfMessage k s = place (firstBadPlace (messageLayout k .fields) s)
 
 -- all others that the host sends have a stamp and a token
-pub stamp-or-token : (s : List ℕ) (k : ℕ) → k < 16 → 4 < k → (k ≡ 6 → ⊥) → firstOfMessage k s ≡ earlierOf (stampPlace 1 s) (tokenPlace 9 s)
+pub stamp-or-token : (s : List ℕ) (k : ℕ) → k < 16 → 4 < k → (k ≡ 6 → ⊥) → firstOfMessage k s ≡ place (firstBadPlace (stampAt 1 ∷ tokenAt 9 ∷ []) s)
 unfolding firstBadPlace badPlace
 stamp-or-token s =
-    each (λ (k : ℕ). 4 < k → (k ≡ 6 → ⊥) → firstOfMessage k s ≡ earlierOf (stampPlace 1 s) (tokenPlace 9 s)) 16
+    each (λ (k : ℕ). 4 < k → (k ≡ 6 → ⊥) → firstOfMessage k s ≡ place (firstBadPlace (stampAt 1 ∷ tokenAt 9 ∷ []) s)) 16
     (tt more no 0 tt more no 1 tt more no 2 tt more no 3 tt more no 4 tt more both more (λ h d. absurd (d refl)) more both more both more both more both
     more both more both more both more both more both)
   where
     no : (k : ℕ) → T (ltb k 5) → {P D : Type 0} → 4 < k → D → P
     no k few h d = let l : k < 5 = lit< few in absurd (omega arith)
 
-    both : {h : Type 0} {d : Type 0} → h → d → place (orElse (badPlace (below stampEnd) 1 (part s 1 8)) (orElse (badPlace legalToken 9 (part s 9 14)) none)) ≡ earlierOf (stampPlace 1 s) (tokenPlace 9 s)
-    both h d = simp (place-earlier, or-none)
+    both : {h : Type 0} {d : Type 0} → h → d → place (firstBadPlace (stampAt 1 ∷ tokenAt 9 ∷ []) s) ≡ place (firstBadPlace (stampAt 1 ∷ tokenAt 9 ∷ []) s)
+    both h d = refl
+
+-- no message has a bad byte at 0
+pub none-at-0 : (k : ℕ) (s : List ℕ) → firstBadPlace (messageLayout k .fields) s ≡ some 0 → ⊥
+unfolding wellLaid firstBadPlace
+none-at-0 k s e =
+    elim (decLt k 16) [
+      | yes h ↦ not-at-0 (messageLayout k .fields) (messageLayout k .size) (well-laid k h .0) s e
+      | no h ↦ no-place (sym (ap (λ (l : Layout). firstBadPlace (l .fields) s) (no-message k (omega arith))) ∙ e)
+    ]

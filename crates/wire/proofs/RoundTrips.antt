@@ -1,19 +1,19 @@
 -- The round trips, once over every layout: legal bytes that are read and written back, and values that are written and read back.
 -- Assumes nothing.
-use Rattle.octets.proofs.Proving.{Bool, List, T, _++_, _∙_, _≡_, _≤_, ap, drop, eq-eqb, false, getD, le-ltb, length, length-replicate, ltb, not, refl, sym, take, take-at, true, ℕ}
+use Rattle.octets.proofs.Proving.{List, Option, T, _++_, _∙_, _≡_, _≤_, ap, drop, eq-eqb, getD, le-ltb, length, length-replicate, lit<, ltb, none, refl, some, sym, take, take-at, true, ℕ}
 use Rattle.octets.specs.Choice.{_⇒_⨾_}
 use Rattle.octets.specs.Bytes.{zeros}
 use Rattle.answers.specs.Answer.{isDone, ifDone}
 use Rattle.answers.specs.declared.Answer.{Answer}
-use Rattle.answers.specs.declared.Answer.the-variants.{Done, BadField, NoRoom}
-use Rattle.wire.specs.Layout.{Layout, Values, Fits, FromFields, atOnce, reading, readFields, noBadPlace, spell, wellLaid, gapsAreZero}
-use Rattle.wire.specs.Messages.{messageLayout, readAnswer, legalOrZeros, writeAnswer, bufferAfter}
+use Rattle.answers.specs.declared.Answer.the-variants.{Done, NoRoom}
+use Rattle.wire.specs.Layout.{Layout, Values, Fits, FromFields, atOnce, reading, readFields, firstBadPlace, spell, wellLaid, gapsAreZero}
+use Rattle.wire.specs.Messages.{badAt_⨾_, messageLayout, readAnswer, legalOrZeros, writeAnswer, bufferAfter}
 use Rattle.wire.specs.Legal.{Bytes}
 use Rattle.wire.specs.Faithful.{Faithful}
 use Rattle.wire.proofs.Numbered.{well-laid}
 use Rattle.wire.proofs.Layouts.{sized-all, length-spelled, values-again, message-again}
 use Rattle.wire.proofs.BadPlaces.{no-bad-place}
-use Rattle.wire.proofs.Exactly.{Way, malformed, bad, done, way, done-exactly, malformed-exactly, bad-field-exactly}
+use Rattle.wire.proofs.Exactly.{Way, malformed, bad, done, way, done-exactly, malformed-exactly, bad-field-exactly, read-place, write-bad-exactly, write-place}
 
 -- a done writer leaves its bytes in front and the rest as it was
 pub in-front : (l : Layout) (m buffer : List ℕ) → writeAnswer l m buffer ≡ Done → bufferAfter l m buffer ≡ m ++ drop (l .size) buffer
@@ -24,14 +24,14 @@ in-front l m buffer e = rw e
 module _ (l : Layout) (m buffer : List ℕ) (long : length m ≡ l .size) (typed : getD m 0 0 ≡ l .code) where
   pub sent-legal : writeAnswer l m buffer ≡ Done → readAnswer l m ≡ Done
   unfolding writeAnswer readAnswer
-  sent-legal e = rw (eq-eqb (length m) (l .size) long, eq-eqb (getD m 0 0) (l .code) typed) (go (noBadPlace (l .fields) m) e)
+  sent-legal e = rw (eq-eqb (length m) (l .size) long, eq-eqb (getD m 0 0) (l .code) typed) (go (firstBadPlace (l .fields) m) e)
     where
-      go : (b : Bool) → (not b ⇒ BadField ⨾ ltb (length buffer) (l .size) ⇒ NoRoom ⨾ Done) ≡ Done → (not b ⇒ BadField ⨾ Done) ≡ Done
-      go true e = refl
-      go false e = e
+      go : (o : Option ℕ) → (badAt o ⨾ ltb (length buffer) (l .size) ⇒ NoRoom ⨾ Done) ≡ Done → (badAt o ⨾ Done) ≡ Done
+      go none e = refl
+      go (some at) e = e
 
   pub legal-sent : readAnswer l m ≡ Done → l .size ≤ length buffer → writeAnswer l m buffer ≡ Done
-  unfolding writeAnswer noBadPlace
+  unfolding writeAnswer
   legal-sent e room =
       rw (no-bad-place (l .fields) m (done-exactly l m .0 e .judged), le-ltb (length buffer) (l .size) room)
 
@@ -78,7 +78,10 @@ module _ (l : Layout) (well : wellLaid l ≡ true) (gaps : gapsAreZero (l .field
       );
       done = done-exactly l;
       malformed = malformed-exactly l;
-      bad-field = bad-field-exactly l;
+      bad-field = λ s at. bad-field-exactly l s well at;
+      place-0 = λ s. read-place l s well;
+      write-bad-field = λ m buffer at. write-bad-exactly l well (spell l (values m)) buffer at;
+      write-place-0 = λ m buffer. write-place l well (spell l (values m)) buffer;
     }
 
 -- message k, whose struct is made of its values and taken apart into them
@@ -86,7 +89,7 @@ pub faithful : (k : ℕ) → T (ltb k 16) → {X : Type 0} (made : FromFields (m
     → ((m : X) → atOnce (messageLayout k .fields) made (values m) ≡ m)
     → ((v : Values (messageLayout k .fields)) → values (atOnce (messageLayout k .fields) made v) ≡ v)
     → Faithful (messageLayout k) (λ (s : List ℕ). reading (messageLayout k .fields) s made) (λ (m : X). spell (messageLayout k) (values m)) values
-faithful k h made values whole apart = let ok = well-laid k h in trips (messageLayout k) (ok .0) (ok .1 .0) made values whole apart
+faithful k h made values whole apart = let ok = well-laid k (lit< h) in trips (messageLayout k) (ok .0) (ok .1 .0) made values whole apart
 
 -- the bytes that a reader takes its fields from are as many as its message has, legal or not
 legal-long : (l : Layout) (s : List ℕ) → length (legalOrZeros l s) ≡ l .size
@@ -95,7 +98,7 @@ legal-long l s = go (way l s)
   where
     go : Way l s → length (legalOrZeros l s) ≡ l .size
     go (malformed e h) = rw e (length-replicate (l .size) 0)
-    go (bad e h t b) = rw e (length-replicate (l .size) 0)
+    go (bad at e h t) = rw e (length-replicate (l .size) 0)
     go (done e h) = rw e (h .long)
 
 module _ (l : Layout) (s : List ℕ) {answer : Answer} {r : List ℕ} (judged : answer ≡ readAnswer l s) (kept : r ≡ ifDone answer s (zeros (l .size))) where

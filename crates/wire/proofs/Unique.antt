@@ -28,13 +28,14 @@ text-unique = (λ κs a. settled) also (λ κs a. settled)
 pub price-unique : Settled wire.price.Price.new.Reads.Post
 price-unique κs a = settled
 
-pub places-unique : Settled wire.places.earlier.Reads.Post and Settled wire.places.bad_stamp.Reads.Post
+pub places-unique : Settled wire.places.earlier.Reads.Post and Settled wire.places.answer_for.Reads.Post
+    and Settled wire.places.bad_stamp.Reads.Post
     and Settled wire.places.bad_limit_price.Reads.Post and Settled wire.places.bad_token.Reads.Post
     and Settled wire.places.bad_side.Reads.Post and Settled wire.places.bad_sweep.Reads.Post
     and Settled wire.places.bad_liquidity_flag.Reads.Post and Settled wire.places.bad_book_reason.Reads.Post
     and Settled wire.places.bad_system_event.Reads.Post
 places-unique =
-    (λ κs a. settled) also (λ κs a. settled) also (λ κs a. settled) also (λ κs a. settled) also (λ κs a. settled) also (λ κs a. settled)
+    (λ κs a. settled) also (λ κs a. settled) also (λ κs a. settled) also (λ κs a. settled) also (λ κs a. settled) also (λ κs a. settled) also (λ κs a. settled)
     also (λ κs a. settled) also (λ κs a. settled) also (λ κs a. settled)
 
 pub shares-unique : Settled wire.shares.Total.is_below.Reads.Post and Settled wire.shares.Total.equals.Reads.Post

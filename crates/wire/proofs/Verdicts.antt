@@ -1,28 +1,18 @@
 -- What a reader and a writer answer, by what the code found on its way there. Assumes nothing.
-use Rattle.octets.proofs.Proving.{Bool, List, Option, _++_, _<_, _∙_, _≡_, _≤_, ap, arith, drop, eq-eqb, false, getD, le-ltb, length, length-take-le, lt-ltb, ne-eqb, none, refl, some, sym, take, true, zero-add, ℕ}
+use Rattle.octets.proofs.Proving.{Bool, List, Option, _++_, _∙_, _≡_, _≤_, ap, arith, drop, eq-eqb, false, getD, length, length-take-le, ltb, ltb-false, ne-eqb, none, refl, some, sym, take, true, zero-add, ℕ}
+use Rattle.octets.specs.Choice.{_⇒_⨾_}
 use Rattle.octets.specs.Bytes.{put}
 use Rattle.answers.specs.Answer.{isDone, ifDone}
+use Rattle.answers.specs.declared.Answer.{Answer}
 use Rattle.answers.specs.declared.Answer.the-variants.{Done, Malformed, BadField, NoRoom}
-use Rattle.wire.specs.Layout.{Layout, Field, Nowhere, At, place, isNone, firstBadPlace, noBadPlace}
-use Rattle.wire.specs.Messages.{readAnswer, writeAnswer, bufferAfter}
+use Rattle.answers.proofs.Laws.{is-done}
+use Rattle.wire.specs.Layout.{Layout, place, firstBadPlace}
+use Rattle.wire.specs.Messages.{badAt_⨾_, placeAnswer, readAnswer, writeAnswer, bufferAfter}
 
--- nothing is bad where there is no first bad place
-module _ (fs : List Field) (s : List ℕ) where
-  pub clean : place (firstBadPlace fs s) ≡ Nowhere → noBadPlace fs s ≡ true
-  unfolding noBadPlace
-  clean e = go (firstBadPlace fs s) e
-    where
-      go : (x : Option ℕ) → place x ≡ Nowhere → isNone x ≡ true
-      go none e = refl
-      go (some i) e = let z : _≡_ {A = ℕ} 0 1 = cc in absurd (omega arith)
-
-  pub unclean : {i : ℕ} → place (firstBadPlace fs s) ≡ At i → noBadPlace fs s ≡ false
-  unfolding noBadPlace
-  unclean {i} e = go (firstBadPlace fs s) e
-    where
-      go : (x : Option ℕ) → place x ≡ At i → isNone x ≡ false
-      go none e = let z : _≡_ {A = ℕ} 0 1 = cc in absurd (omega arith)
-      go (some j) e = refl
+-- a place answers as code hands it about
+pub told : (o : Option ℕ) (next : Answer) → (o ≡ some 0 → ⊥) → placeAnswer (place o) next ≡ (badAt o ⨾ next)
+told none next h = refl
+told (some at) next h = let n = ne-eqb at 0 (λ e. h (rw e)) in rw n
 
 module _ (l : Layout) (s : List ℕ) where
   pub wrong-length : (length s ≡ l .size → ⊥) → readAnswer l s ≡ Malformed
@@ -33,38 +23,47 @@ module _ (l : Layout) (s : List ℕ) where
   unfolding readAnswer
   wrong-type e h = rw (eq-eqb (length s) (l .size) e, ne-eqb (getD s 0 0) (l .code) h)
 
-  pub bad-field : length s ≡ l .size → getD s 0 0 ≡ l .code → noBadPlace (l .fields) s ≡ false → readAnswer l s ≡ BadField
+  pub judged : length s ≡ l .size → getD s 0 0 ≡ l .code → readAnswer l s ≡ (badAt firstBadPlace (l .fields) s ⨾ Done)
   unfolding readAnswer
-  bad-field e t p = rw (eq-eqb (length s) (l .size) e, eq-eqb (getD s 0 0) (l .code) t, p)
+  judged e t = rw (eq-eqb (length s) (l .size) e, eq-eqb (getD s 0 0) (l .code) t)
 
-  pub legal : length s ≡ l .size → getD s 0 0 ≡ l .code → noBadPlace (l .fields) s ≡ true → readAnswer l s ≡ Done
-  unfolding readAnswer
-  legal e t p = rw (eq-eqb (length s) (l .size) e, eq-eqb (getD s 0 0) (l .code) t, p)
+  pub bad-field : {at : ℕ} → length s ≡ l .size → getD s 0 0 ≡ l .code → firstBadPlace (l .fields) s ≡ some at → readAnswer l s ≡ BadField at
+  bad-field e t p = judged e t ∙ ap (λ (o : Option ℕ). badAt o ⨾ Done) p
 
--- a writer of the first n bytes of what was spelled, n as the code has it
-module _ (l : Layout) (spelled buffer : List ℕ) (n : ℕ) (e : n ≡ l .size) where
-  -- the code's test of them is the layout's
-  found : {b : Bool} → noBadPlace (l .fields) (take n spelled) ≡ b → noBadPlace (l .fields) (take (l .size) spelled) ≡ b
-  found h = ap (λ (m : ℕ). noBadPlace (l .fields) (take m spelled)) (sym e) ∙ h
+  pub legal : length s ≡ l .size → getD s 0 0 ≡ l .code → firstBadPlace (l .fields) s ≡ none → readAnswer l s ≡ Done
+  legal e t p = judged e t ∙ ap (λ (o : Option ℕ). badAt o ⨾ Done) p
 
-  pub not-legal : noBadPlace (l .fields) (take n spelled) ≡ false
-      → (BadField ≡ writeAnswer l (take (l .size) spelled) buffer) × (buffer ≡ bufferAfter l (take (l .size) spelled) buffer)
-  unfolding writeAnswer bufferAfter ifDone isDone
-  not-legal h = let u = found h in (rw u, rw u)
+-- a done writer has room
+pub room : (l : Layout) (m buffer : List ℕ) → writeAnswer l m buffer ≡ Done → l .size ≤ length buffer
+unfolding writeAnswer
+room l m buffer e = go (firstBadPlace (l .fields) m) (ltb (length buffer) (l .size)) refl e
+  where
+    go : (o : Option ℕ) (b : Bool) → ltb (length buffer) (l .size) ≡ b → (badAt o ⨾ b ⇒ NoRoom ⨾ Done) ≡ Done → l .size ≤ length buffer
+    go none false f e = ltb-false (length buffer) (l .size) f
+    go none true f e = let z : _≡_ {A = ℕ} 0 1 = cc in absurd (omega arith)
+    go (some at) b f e = let z : _≡_ {A = ℕ} 0 1 = cc in absurd (omega arith)
 
-  pub no-room : noBadPlace (l .fields) (take n spelled) ≡ true → length buffer < l .size
-      → (NoRoom ≡ writeAnswer l (take (l .size) spelled) buffer) × (buffer ≡ bufferAfter l (take (l .size) spelled) buffer)
-  unfolding writeAnswer bufferAfter ifDone isDone
-  no-room h short = let u = found h in let f = lt-ltb (length buffer) (l .size) short in (rw (u, f), rw (u, f))
+-- a writer of the first n bytes of what was spelled, n as the code has it, by what the code found and what it would answer then
+module _ (l : Layout) (spelled buffer : List ℕ) {n : ℕ} (e : n ≡ l .size) {found : ℕ} {next answer : Answer}
+    (f : found ≡ place (firstBadPlace (l .fields) (take n spelled))) (g : next ≡ (ltb (length buffer) (l .size) ⇒ NoRoom ⨾ Done))
+    (h : answer ≡ placeAnswer found next) (behind : firstBadPlace (l .fields) (take (l .size) spelled) ≡ some 0 → ⊥) where
+  pub answers : answer ≡ writeAnswer l (take (l .size) spelled) buffer
+  unfolding writeAnswer
+  answers = rw (h, f, g, e) (told (firstBadPlace (l .fields) (take (l .size) spelled)) (ltb (length buffer) (l .size) ⇒ NoRoom ⨾ Done) behind)
 
-  pub sent : noBadPlace (l .fields) (take n spelled) ≡ true → l .size ≤ length buffer → l .size ≤ length spelled
-      → {exit : List ℕ} → exit ≡ put buffer 0 (take n spelled)
-      → (Done ≡ writeAnswer l (take (l .size) spelled) buffer) × (exit ≡ bufferAfter l (take (l .size) spelled) buffer)
-  unfolding writeAnswer bufferAfter ifDone isDone
-  sent h room whole {exit} x =
-      let u = found h in
-      let f = le-ltb (length buffer) (l .size) room in
+  pub roomy : isDone answer ≡ true → l .size ≤ length buffer
+  roomy d = room l (take (l .size) spelled) buffer (sym answers ∙ is-done answer d)
+
+  pub not-sent : isDone answer ≡ false
+      → (answer ≡ writeAnswer l (take (l .size) spelled) buffer) × (buffer ≡ bufferAfter l (take (l .size) spelled) buffer)
+  unfolding bufferAfter ifDone
+  not-sent d = (answers, rw (← answers, d))
+
+  pub sent : isDone answer ≡ true → l .size ≤ length spelled → {exit : List ℕ} → exit ≡ put buffer 0 (take n spelled)
+      → (answer ≡ writeAnswer l (take (l .size) spelled) buffer) × (exit ≡ bufferAfter l (take (l .size) spelled) buffer)
+  unfolding bufferAfter ifDone
+  sent d whole {exit} x =
       let long : length (take (l .size) spelled) ≡ l .size = length-take-le (l .size) spelled whole in
       let y : exit ≡ take (l .size) spelled ++ drop (l .size) buffer =
       x ∙ ap (λ (m : ℕ). put buffer 0 (take m spelled)) e ∙ rw (zero-add, long) in
-      (rw (u, f), y ∙ rw (u, f))
+      (answers, y ∙ rw (← answers, d))

@@ -6,7 +6,7 @@ use mathlib.Core.List.{List, _++_}
 use lib.ListN.{length, take, drop, getD}
 use Rattle.answers.specs.declared.Answer.the-variants.{Done, Malformed, BadField}
 use Rattle.wire.specs.Layout.{Layout, Values, Fits}
-use Rattle.wire.specs.Legal.{Bytes, AllObey, Legal, _exactlyWhen_}
+use Rattle.wire.specs.Legal.{Bytes, Legal, FirstBad, _exactlyWhen_, PlaceWith3}
 use Rattle.wire.specs.Messages.{readAnswer, writeAnswer, bufferAfter}
 
 -- of a struct X with its layout: what it is of bytes, its bytes, and its values
@@ -21,4 +21,10 @@ pub record Faithful {X : Type 0} (l : Layout) (of : List ℕ → X) (bytes : X �
   -- the reader's answers
   pub done : (s : List ℕ) → (readAnswer l s ≡ Done) exactlyWhen Legal l s
   pub malformed : (s : List ℕ) → (readAnswer l s ≡ Malformed) exactlyWhen ((length s ≡ l .size) × (getD s 0 0 ≡ l .code) → ⊥)
-  pub bad-field : (s : List ℕ) → (readAnswer l s ≡ BadField) exactlyWhen (((length s ≡ l .size) × (getD s 0 0 ≡ l .code)) × (AllObey (l .fields) s → ⊥))
+  -- Ask 1: the place told is the smallest offset of a bad byte, and it is 0 exactly when the answer isn't 3
+  pub bad-field : (s : List ℕ) (at : ℕ)
+      → (readAnswer l s ≡ BadField at) exactlyWhen (((length s ≡ l .size) × (getD s 0 0 ≡ l .code)) × FirstBad (l .fields) s at)
+  pub place-0 : (s : List ℕ) → PlaceWith3 (readAnswer l s)
+  -- the writer's, of the bytes that it is to write
+  pub write-bad-field : (m : X) (buffer : List ℕ) (at : ℕ) → (writeAnswer l (bytes m) buffer ≡ BadField at) exactlyWhen FirstBad (l .fields) (bytes m) at
+  pub write-place-0 : (m : X) (buffer : List ℕ) → PlaceWith3 (writeAnswer l (bytes m) buffer)

@@ -13,8 +13,6 @@ use Rattle.wire.specs.Letters.{sides, sweeps, liquidityFlags, bookReason
 use Rattle.wire.specs.Limits.{stampEnd, tokenSize, lowestPrice, highestPrice}
 use Rattle.octets.specs.Bytes.{part, put, numberOf, digits, zeros}
 use Rattle.wire.specs.Text.{tokenByte}
-pub use Rattle.wire.specs.declared.places.Place.{Place}
-pub use Rattle.wire.specs.declared.places.Place.the-variants.{Nowhere, At}
 
 -- a field holds a number, a text, or nothing (zeros)
 pub data Form : Type 0 where
@@ -210,14 +208,13 @@ abbrev pub isNone : Option ℕ → Bool
 isNone none = true
 isNone (some at) = false
 
--- the same as code hands it about
-abbrev pub place : Option ℕ → Place
-place none = Nowhere
-place (some at) = At at
+-- the same as code hands it about: no judged field lies at 0, so 0 says that nothing is bad
+abbrev pub place : Option ℕ → ℕ
+place none = 0
+place (some at) = at
 
-abbrev pub earlierOf : Place → Place → Place
-earlierOf Nowhere b = b
-earlierOf (At at) b = At at
+abbrev pub earlierOf : ℕ → ℕ → ℕ
+earlierOf a b = pick (eqb a 0) b a
 
 unfoldable pub noBadPlace : List Field → List ℕ → Bool
 noBadPlace fs s = isNone (firstBadPlace fs s)

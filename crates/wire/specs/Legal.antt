@@ -7,6 +7,8 @@ use mathlib.Core.Logic.{_⊎_}
 use mathlib.Core.List.{List, List·Memᴰ}
 use lib.ListN.{length, getD}
 use Rattle.octets.specs.Bytes.{part, numberOf}
+use Rattle.answers.specs.Answer.{answerNumber, answerPlace}
+use Rattle.answers.specs.declared.Answer.{Answer}
 use Rattle.wire.specs.Letters.{space}
 use Rattle.wire.specs.Layout.{Rule, free, below, between, oneOf, legalToken, allZero, Field, Layout}
 
@@ -71,3 +73,7 @@ pub record FirstBad (fs : List Field) (s : List ℕ) (p : ℕ) : Type 0 where
 infix 3 _exactlyWhen_
 abbrev pub _exactlyWhen_ : Type 0 → Type 0 → Type 0
 A exactlyWhen B = (A → B) × (B → A)
+
+-- Ask 1: the place is 0 exactly when the answer isn't 3
+abbrev pub PlaceWith3 : Answer → Type 0
+PlaceWith3 answer = answerPlace answer ≡ 0 exactlyWhen (answerNumber answer ≡ 3 → ⊥)

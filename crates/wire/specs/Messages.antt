@@ -13,7 +13,7 @@ use Rattle.answers.specs.declared.Answer.{Answer}
 use Rattle.answers.specs.declared.Answer.the-variants.{Done, Malformed, BadField, NoRoom}
 use Rattle.octets.specs.Bytes.{zeros}
 use Rattle.wire.specs.Limits.{longestMessage}
-use Rattle.wire.specs.Layout.{Layout, Field, stampAt, tokenAt, sideAt, sweepAt, letterAt, wholeAt, textAt, noBadPlace, layoutFor, shifted}
+use Rattle.wire.specs.Layout.{Layout, Field, stampAt, tokenAt, sideAt, sweepAt, letterAt, wholeAt, textAt, firstBadPlace, layoutFor, shifted}
 
 -- ---- inbound
 
@@ -283,13 +283,23 @@ messageLength isInbound letter = lengthFor (pick isInbound inbound outbound) let
 
 -- ---- readers and writers
 
+-- Ask 1: where there is a first bad place the answer is 3 and tells it; where there is none, what is asked next is answered
+infixr 10 badAt_⨾_
+abbrev pub badAt_⨾_ : Option ℕ → Answer → Answer
+badAt none ⨾ next = next
+badAt (some at) ⨾ next = BadField at
+
+-- the same of a place as code hands it about
+abbrev pub placeAnswer : ℕ → Answer → Answer
+placeAnswer at next = pick (eqb at 0) next (BadField at)
+
 -- a reader checks length and type (2), then the judged fields (3)
 unfoldable pub readAnswer : Layout → List ℕ → Answer
 readAnswer l s =
     firstOf
     not (eqb (length s) (l .size)) ⇒ Malformed
     ⨾ not (eqb (getD s 0 0) (l .code)) ⇒ Malformed
-    ⨾ not (noBadPlace (l .fields) s) ⇒ BadField
+    ⨾ badAt firstBadPlace (l .fields) s
     ⨾ Done
 
 -- the bytes that a reader takes its fields from: a refused reader's fields are all zero
@@ -304,7 +314,7 @@ inEighty m = m ++ zeros (longestMessage - length m)
 unfoldable pub writeAnswer : Layout → List ℕ → List ℕ → Answer
 writeAnswer l bytes buffer =
     firstOf
-    not (noBadPlace (l .fields) bytes) ⇒ BadField
+    badAt firstBadPlace (l .fields) bytes
     ⨾ ltb (length buffer) (l .size) ⇒ NoRoom
     ⨾ Done
 

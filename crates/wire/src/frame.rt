@@ -1,7 +1,9 @@
 // What every reader and every writer ends with, once for all messages.
-use crate::judge::is_clean;
+use crate::judge::first_bad;
 use crate::messages::size;
+use crate::places::answer_for;
 use answers::Answer;
+use answers::first_of;
 use answers::is_done;
 ghost use mathlib.Core.Path.{_≡_};
 ghost use lib.ListN.{length, take};
@@ -36,14 +38,12 @@ pub fn send(buffer: &mut [u8], spelled: [u8; 80], k: usize) -> Answer
 {
     let n = size(k);
     let bytes = &spelled[0..n];
-    let clean = is_clean(bytes, k);
-    let short = buffer.len() < n;
-    if !clean {
-        return Answer::BadField;
+    let answer = answer_for(
+        first_bad(bytes, k),
+        first_of(buffer.len() < n, Answer::NoRoom, Answer::Done),
+    );
+    if is_done(answer) {
+        octets::put_bytes(buffer, 0, bytes);
     }
-    if short {
-        return Answer::NoRoom;
-    }
-    octets::put_bytes(buffer, 0, bytes);
-    Answer::Done
+    answer
 }

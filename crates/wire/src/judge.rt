@@ -8,7 +8,8 @@ use crate::messages::SYSTEM_EVENT;
 use crate::messages::first_byte;
 use crate::messages::letter_of;
 use crate::messages::size;
-use crate::places::Place;
+use crate::places::NOWHERE;
+use crate::places::answer_for;
 use crate::places::bad_side;
 use crate::places::bad_stamp;
 use crate::places::bad_sweep;
@@ -18,7 +19,7 @@ use answers::Answer;
 ghost use mathlib.Core.Path.{_≡_};
 ghost use Prim.Native.Nat.{_+_, _<_, _≤_};
 ghost use lib.ListN.{length};
-ghost use Rattle.wire.specs.Layout.{place, firstBadPlace, noBadPlace};
+ghost use Rattle.wire.specs.Layout.{place, firstBadPlace};
 ghost use Rattle.wire.specs.Messages.{messageLayout, fieldsFrom, readAnswer};
 
 // Length and type, then the judged fields.
@@ -31,25 +32,11 @@ pub fn judge(s: &[u8], k: usize) -> Answer
     if first_byte(s) != letter_of(k) {
         return Answer::Malformed;
     }
-    if is_clean(s, k) {
-        return Answer::Done;
-    }
-    Answer::BadField
-}
-
-// Nothing is bad where there is no first bad place.
-pub(crate) fn is_clean(s: &[u8], k: usize) -> bool
-    requires { ⌜ length (now s) ≡ messageLayout k .size ⌝ }
-    ensures { λ r. ⌜ r ≡ noBadPlace (messageLayout k .fields) (now (s .entry)) ⌝ }
-{
-    match first_bad(s, k) {
-        Place::Nowhere => true,
-        Place::At(_) => false,
-    }
+    answer_for(first_bad(s, k), Answer::Done)
 }
 
 // Where the first bad byte of message k stands: of tokens and stamps everywhere, of side and sweep in what a client sends.
-fn first_bad(s: &[u8], k: usize) -> Place
+pub(crate) fn first_bad(s: &[u8], k: usize) -> usize
     requires { ⌜ length (now s) ≡ messageLayout k .size ⌝ }
     ensures { λ r. ⌜ r ≡ place (firstBadPlace (messageLayout k .fields) (now (s .entry))) ⌝ }
 {
@@ -64,7 +51,7 @@ fn first_bad(s: &[u8], k: usize) -> Place
 }
 
 // The same of what a client sends, wherever it stands: an entry of a tape has it eight bytes further on, behind its stamp.
-pub fn bad_inbound(s: &[u8], from: usize, k: usize) -> Place
+pub fn bad_inbound(s: &[u8], from: usize, k: usize) -> usize
     requires { ⌜ (k < 4) × (messageLayout k .size + from ≤ length (now s)) ⌝ }
     ensures { λ r. ⌜ r ≡ place (firstBadPlace (fieldsFrom from k) (now (s .entry))) ⌝ }
 {
@@ -84,12 +71,12 @@ pub fn bad_inbound(s: &[u8], from: usize, k: usize) -> Place
 }
 
 // All others that the host sends have a stamp and one token, and nothing else of them is judged.
-fn bad_stamp_or_token(s: &[u8], k: usize) -> Place
+fn bad_stamp_or_token(s: &[u8], k: usize) -> usize
     requires { ⌜ ((4 < k) × (k ≡ 6 → ⊥)) × (length (now s) ≡ messageLayout k .size) ⌝ }
     ensures { λ r. ⌜ r ≡ place (firstBadPlace (messageLayout k .fields) (now (s .entry))) ⌝ }
 {
     if k < MESSAGES {
         return earlier(bad_stamp(s, 1), bad_token(s, 9));
     }
-    Place::Nowhere
+    NOWHERE
 }

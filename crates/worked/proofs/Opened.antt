@@ -9,7 +9,8 @@ use Rattle.worked.specs.House.{codes, eightFirms, twoFirms, lowThreshold
 use Rattle.worked.specs.Replay.{tape, typeSent, bytesSent, replayed}
 use Rattle.worked.specs.Edges.{enterEdges, replaceEdges, cancelEdges, modifyEdges, takenEdges, crossEdges, answerEdges}
 use Rattle.worked.specs.Odds.{someTable, damaged, soundness, marks, answerOver, answerAtEnd, flagsAfter, stepOdds, fresh, callOdds}
+use Rattle.worked.specs.Places.{_spoiledAt_, _answers_at_, clientsPlaces, enginesPlaces, severalPlaces}
 
 unfoldable pub opened : Unit {0}
-unfolding settings host practice small emptied play stamp token start finish enter good replaceAs replace cancel modify execute selfMatch bookCancel prioritise late crossDone stampedAt _onSide_ _inStock_ _forFirm_ _displayed_ _inCapacity_ _swept_ _atLeast_ begun entered selfMatched enteredLate closing full sold isSystemEvent isAccepted isAcceptedGood isReplacedAs isReplaced isCanceledFor isCanceled isModified isRejected isExecuted isAiqCancelled isCancelPending isCancelReject isPriorityUpdate stands recordNamed leftIs unlessDone holding holds allHold starred unstarred faults alone both neighbours rejects codes eightFirms twoFirms lowThreshold house tape typeSent bytesSent replayed enterEdges replaceEdges cancelEdges modifyEdges takenEdges crossEdges answerEdges someTable damaged soundness marks answerOver answerAtEnd flagsAfter stepOdds fresh callOdds
+unfolding settings host practice small emptied play stamp token start finish enter good replaceAs replace cancel modify execute selfMatch bookCancel prioritise late crossDone stampedAt _onSide_ _inStock_ _forFirm_ _displayed_ _inCapacity_ _swept_ _atLeast_ begun entered selfMatched enteredLate closing full sold isSystemEvent isAccepted isAcceptedGood isReplacedAs isReplaced isCanceledFor isCanceled isModified isRejected isExecuted isAiqCancelled isCancelPending isCancelReject isPriorityUpdate stands recordNamed leftIs unlessDone holding holds allHold starred unstarred faults alone both neighbours rejects codes eightFirms twoFirms lowThreshold house tape typeSent bytesSent replayed enterEdges replaceEdges cancelEdges modifyEdges takenEdges crossEdges answerEdges someTable damaged soundness marks answerOver answerAtEnd flagsAfter stepOdds fresh callOdds _spoiledAt_ _answers_at_ clientsPlaces enginesPlaces severalPlaces
 opened = tt

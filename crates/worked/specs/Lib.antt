@@ -8,3 +8,4 @@ pub mod House
 pub mod Replay
 pub mod Edges
 pub mod Odds
+pub mod Places

@@ -2,6 +2,7 @@
 //! the proved step is held to.
 
 use pilaqsevi::Marks;
+use second::Told;
 
 use crate::ring;
 
@@ -39,39 +40,54 @@ pub fn find(table: &[u8], token: &[u8; 14]) -> Option<usize> {
 /// The whole step of a Modify: table, ring and entry judged, the order found, the rule decided,
 /// and record, header and message written. Another kind is answered 2, since none is measured.
 #[inline(never)]
-pub fn modify(table: &mut [u8], ring: &mut [u8], marks: &mut Marks, entry: &[u8]) -> u8 {
+pub fn modify(table: &mut [u8], ring: &mut [u8], marks: &mut Marks, entry: &[u8]) -> Told {
     if !judge(table) {
-        return 10;
+        return answer(10);
     }
     if !ring::right(ring.len(), *marks) {
-        return 11;
+        return answer(11);
     }
     let Some(entry) = <&[u8; 28]>::try_from(entry).ok().filter(|e| e[0] == b'M') else {
-        return 2;
+        return answer(2);
     };
-    let stamp = long_number(entry, 1);
-    let legal = stamp < DAY_NANOS && token_legal(&entry[9..23]) && b"BSTE".contains(&entry[23]);
-    if !legal {
-        return 3;
+    if let Some(place) = bad_byte(entry) {
+        return Told { answer: 3, place };
     }
     if entry[1..9] < table[8..16] {
-        return 4;
+        return answer(4);
     }
     let Some((place, open)) = modified(table, entry) else {
-        return 1;
+        return answer(1);
     };
     // A Modified begins as its Modify does: type, stamp, token, side.
     let mut sent = [0; 28];
     sent[..24].copy_from_slice(&entry[..24]);
     sent[24..].copy_from_slice(&open.to_be_bytes());
-    let answer = ring::put(ring, *marks, &sent);
-    if answer == 0 {
+    let put = ring::put(ring, *marks, &sent);
+    if put == 0 {
         marks.held += sent.len();
         table[8..16].copy_from_slice(&entry[1..9]);
         let record = &mut table[HEADER_LEN + RECORD_LEN * place..][..RECORD_LEN];
         record[15..20].copy_from_slice(&entry[23..28]);
     }
-    answer
+    answer(put)
+}
+
+/// An answer that has no place.
+fn answer(answer: u8) -> Told {
+    Told { answer, place: 0 }
+}
+
+/// The first bad byte of a Modify: its stamp's first, a token's character, or its side.
+fn bad_byte(entry: &[u8; 28]) -> Option<usize> {
+    if long_number(entry, 1) >= DAY_NANOS {
+        return Some(1);
+    }
+    let mut token = entry[9..23].iter();
+    if let Some(character) = token.position(|byte| !legal_character(byte)) {
+        return Some(9 + character);
+    }
+    (!b"BSTE".contains(&entry[23])).then_some(23)
 }
 
 /// Which record a Modify changes, and what is open of it then; nothing where it is ignored.
@@ -138,8 +154,11 @@ fn record_sound(record: &Record) -> bool {
 }
 
 fn token_legal(token: &[u8]) -> bool {
-    let mut bytes = token.iter();
-    bytes.all(|&byte| byte == b' ' || byte.is_ascii_alphanumeric())
+    token.iter().all(legal_character)
+}
+
+fn legal_character(byte: &u8) -> bool {
+    *byte == b' ' || byte.is_ascii_alphanumeric()
 }
 
 /// Four bytes of an array as a number; the places are constants, so nothing is left to check.
@@ -202,10 +221,10 @@ mod tests {
             let mut marks = Marks { at, held };
             let mut right = (table.clone(), ring, at, held);
             let (t, r, a, h) = (&mut right.0, &mut right.1, &mut right.2, &mut right.3);
-            let answer = second::step(t, r, a, h, &entry);
-            assert_eq!(modify(&mut table, &mut ring, &mut marks, &entry), answer);
+            let told = second::step(t, r, a, h, &entry);
+            assert_eq!(modify(&mut table, &mut ring, &mut marks, &entry), told);
             assert!((table, ring, marks.at, marks.held) == right);
-            answered[usize::from(answer)] += 1;
+            answered[usize::from(told.answer)] += 1;
         }
         for answer in [0, 1, 2, 3, 4, 9, 10, 11] {
             assert!(answered[answer] > 20, "{answered:?}");

@@ -58,13 +58,16 @@ pub fn steps(used: usize) -> Vec<Row> {
                 assert!(black_box(found));
             })
         },
-        &mut || by_hand.steps(plain::modify),
+        &mut || {
+            by_hand
+                .steps(|table, ring, marks, entry| plain::modify(table, ring, marks, entry).answer)
+        },
         &mut || {
             outbox.release(outbox.held());
             let mut entries = scene.to_and_fro.iter().cycle();
             timed(|| {
                 let entry = entries.next().expect("a cycle has no end");
-                assert_eq!(host.offer(&mut outbox, entry), 0);
+                assert_eq!(host.offer(&mut outbox, entry).answer, 0);
             })
         },
     ]);
@@ -174,7 +177,7 @@ pub fn codec(inbound: bool, message: &[u8]) -> Row {
         &mut || {
             timed(|| {
                 let out = black_box(&mut other_out);
-                assert_eq!(second::echo(inbound, black_box(message), out), 0);
+                assert_eq!(second::echo(inbound, black_box(message), out).answer, 0);
             })
         },
     ]);

@@ -41,7 +41,8 @@ impl Scene {
 /// An entry that the table takes, its message thrown away.
 fn offer(table: &mut [u8], entry: &[u8]) {
     let (mut at, mut held) = (0, 0);
-    assert_eq!(step(table, &mut [0; 80], &mut at, &mut held, entry), 0);
+    let told = step(table, &mut [0; 80], &mut at, &mut held, entry);
+    assert_eq!(told.answer, 0);
 }
 
 /// Tokens that differ at the end, as a client's running number does.
@@ -75,7 +76,7 @@ pub fn messages() -> Vec<(bool, Vec<u8>)> {
     let mut found: Vec<(bool, Vec<u8>)> = Vec::new();
     while found.len() < 16 {
         let (inbound, message) = message(&mut chance);
-        let legal = echo(inbound, &message, &mut [0; 80]) == 0;
+        let legal = echo(inbound, &message, &mut [0; 80]).answer == 0;
         let known = |(i, m): &(bool, Vec<u8>)| (*i, m[0]) == (inbound, message[0]);
         if legal && !found.iter().any(known) {
             found.push((inbound, message));

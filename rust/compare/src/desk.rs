@@ -3,7 +3,7 @@
 use pilaqsevi::Marks;
 
 use crate::command::{Command, Settings};
-use crate::host::Host;
+use crate::host::{Host, Told};
 
 /// What stands between commands; at the start there is nothing. The door's own desk is always
 /// right, and this one may be damaged.
@@ -15,8 +15,8 @@ pub struct Desk {
 }
 
 impl Desk {
-    /// Has the host obey a command, and appends all that the command left: the answer, and every
-    /// byte and mark that it could have changed.
+    /// Has the host obey a command, and appends all that the command left: the answer, the place
+    /// where one is told, and every byte and mark that it could have changed.
     pub fn obey(&mut self, host: &impl Host, command: &Command, left: &mut Vec<u8>) {
         match command {
             Command::Table(table) => self.table.clone_from(table),
@@ -31,7 +31,7 @@ impl Desk {
             }
             Command::Step(entry) => {
                 let Desk { table, ring, marks } = self;
-                left.push(host.step(table, ring, marks, entry));
+                tell(host.step(table, ring, marks, entry), left);
                 self.tell_marks(left);
                 left.extend(&self.table);
                 left.extend(&self.ring);
@@ -47,7 +47,7 @@ impl Desk {
             }
             Command::Echo(echo) => {
                 let mut out = vec![echo.fill; echo.out_len];
-                left.push(host.echo(echo.inbound, &echo.message, &mut out));
+                tell(host.echo(echo.inbound, &echo.message, &mut out), left);
                 left.extend(out);
             }
         }
@@ -57,6 +57,12 @@ impl Desk {
         left.extend((self.marks.at as u64).to_be_bytes());
         left.extend((self.marks.held as u64).to_be_bytes());
     }
+}
+
+/// The answer, and the place in eight bytes.
+fn tell(told: Told, left: &mut Vec<u8>) {
+    left.push(told.answer);
+    left.extend((told.place as u64).to_be_bytes());
 }
 
 /// The firms of a fresh command as a list. A count above the places gives a list that is too long,

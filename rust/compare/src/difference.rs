@@ -51,12 +51,13 @@ impl Difference {
             (Command::Read, 0..4) => "the run's length".into(),
             (Command::Read, _) => format!("the run, byte {}", place - 4),
             (_, 0) => "the answer".into(),
-            (Command::Echo(_), _) => format!("the written message, byte {}", place - 1),
             (Command::Fresh(_), _) => in_table(place - 1),
-            (_, 1..9) => "the read place".into(),
-            (_, 9..17) => "the held count".into(),
-            (_, _) if place - 17 < table => in_table(place - 17),
-            (_, _) => format!("the ring, byte {}", place - 17 - table),
+            (Command::Release(_), 1..9) | (Command::Step(_), 9..17) => "the read place".into(),
+            (Command::Release(_), _) | (Command::Step(_), 17..25) => "the held count".into(),
+            (_, 1..9) => "the place of the bad byte".into(),
+            (Command::Echo(_), _) => format!("the written message, byte {}", place - 9),
+            (_, _) if place - 25 < table => in_table(place - 25),
+            (_, _) => format!("the ring, byte {}", place - 25 - table),
         }
     }
 }

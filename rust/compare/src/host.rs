@@ -1,14 +1,15 @@
 //! A host as the comparison sees it: five calls over bytes, and the two hosts that have them.
 
-use pilaqsevi::Marks;
+use pilaqsevi::{Answer, Marks};
+pub use second::Told;
 
-/// The paper's calls; an answer is the paper's number.
+/// The paper's calls; an answer is the paper's number, and a step and an echo tell a place with it.
 pub trait Host {
     fn fresh(&self, table: &mut [u8], threshold: u32, firms: &[[u8; 4]]) -> u8;
-    fn step(&self, table: &mut [u8], ring: &mut [u8], marks: &mut Marks, entry: &[u8]) -> u8;
+    fn step(&self, table: &mut [u8], ring: &mut [u8], marks: &mut Marks, entry: &[u8]) -> Told;
     fn read<'a>(&self, ring: &'a [u8], marks: Marks) -> &'a [u8];
     fn release(&self, ring_len: usize, marks: &mut Marks, k: usize) -> u8;
-    fn echo(&self, inbound: bool, message: &[u8], out: &mut [u8]) -> u8;
+    fn echo(&self, inbound: bool, message: &[u8], out: &mut [u8]) -> Told;
 }
 
 /// The second host, which says what is right.
@@ -19,7 +20,7 @@ impl Host for Second {
         second::fresh(table, threshold, firms)
     }
 
-    fn step(&self, table: &mut [u8], ring: &mut [u8], marks: &mut Marks, entry: &[u8]) -> u8 {
+    fn step(&self, table: &mut [u8], ring: &mut [u8], marks: &mut Marks, entry: &[u8]) -> Told {
         second::step(table, ring, &mut marks.at, &mut marks.held, entry)
     }
 
@@ -31,7 +32,7 @@ impl Host for Second {
         second::release(ring_len, &mut marks.at, &mut marks.held, k)
     }
 
-    fn echo(&self, inbound: bool, message: &[u8], out: &mut [u8]) -> u8 {
+    fn echo(&self, inbound: bool, message: &[u8], out: &mut [u8]) -> Told {
         second::echo(inbound, message, out)
     }
 }
@@ -51,8 +52,8 @@ impl Host for Proved {
         pilaqsevi::fresh(table, threshold, firms).number()
     }
 
-    fn step(&self, table: &mut [u8], ring: &mut [u8], marks: &mut Marks, entry: &[u8]) -> u8 {
-        pilaqsevi::step(table, ring, marks, entry).number()
+    fn step(&self, table: &mut [u8], ring: &mut [u8], marks: &mut Marks, entry: &[u8]) -> Told {
+        told(pilaqsevi::step(table, ring, marks, entry))
     }
 
     fn read<'a>(&self, ring: &'a [u8], marks: Marks) -> &'a [u8] {
@@ -63,7 +64,16 @@ impl Host for Proved {
         pilaqsevi::release(ring_len, marks, k).number()
     }
 
-    fn echo(&self, inbound: bool, message: &[u8], out: &mut [u8]) -> u8 {
-        pilaqsevi::echo(inbound, message, out).number()
+    fn echo(&self, inbound: bool, message: &[u8], out: &mut [u8]) -> Told {
+        told(pilaqsevi::echo(inbound, message, out))
+    }
+}
+
+/// An answer of the door as numbers. A place that came with another answer than 3 isn't lost: the
+/// door ends the program with it.
+fn told(answer: Answer) -> Told {
+    Told {
+        answer: answer.number(),
+        place: answer.place(),
     }
 }

@@ -18,6 +18,6 @@ pub use command::{Command, Echo, Settings};
 pub use desk::Desk;
 pub use difference::Difference;
 pub use driver::Driver;
-pub use host::{Host, Proved, Second};
+pub use host::{Host, Proved, Second, Told};
 pub use sinks::{Beside, Sink};
 pub use tally::Tally;

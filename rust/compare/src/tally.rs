@@ -1,11 +1,14 @@
-//! A tally of a script: how many calls of each kind, and how often each answer was right.
+//! A tally of a script: how many calls of each kind, how often each answer was right, and at how many
+//! places a byte was bad.
 
+use std::collections::BTreeSet;
 use std::fmt::{self, Display, Formatter};
 
 use crate::command::Command;
 
-/// The answers that a call can give.
+/// The answers that a call can give, and the one that has a place.
 const ANSWERS: usize = 14;
+const BAD_FIELD: usize = 3;
 
 /// What has been asked and answered so far.
 #[derive(Clone, Debug, Default, PartialEq, Eq)]
@@ -15,6 +18,10 @@ pub struct Tally {
     pub releases: [u64; ANSWERS],
     pub echoes: [u64; ANSWERS],
     pub reads: u64,
+    /// The bad bytes that steps told, each by the entry's kind and its place.
+    pub entry_places: BTreeSet<(u8, u64)>,
+    /// Those that echoes told, each by whether the message was inbound, its type and its place.
+    pub message_places: BTreeSet<(bool, u8, u64)>,
     /// What the calls left in all, every byte of which was compared.
     pub bytes: u64,
 }
@@ -25,10 +32,20 @@ impl Tally {
         self.bytes += expected.len() as u64;
         let answer = expected.first().copied().map_or(0, usize::from);
         match command {
-            Command::Step(_) => self.steps[answer] += 1,
+            Command::Step(entry) => {
+                self.steps[answer] += 1;
+                if let Some((kind, place)) = bad_byte(entry, expected) {
+                    self.entry_places.insert((kind, place));
+                }
+            }
             Command::Fresh(_) => self.freshes[answer] += 1,
             Command::Release(_) => self.releases[answer] += 1,
-            Command::Echo(_) => self.echoes[answer] += 1,
+            Command::Echo(echo) => {
+                self.echoes[answer] += 1;
+                if let Some((letter, place)) = bad_byte(&echo.message, expected) {
+                    self.message_places.insert((echo.inbound, letter, place));
+                }
+            }
             Command::Read => self.reads += 1,
             Command::Table(_) | Command::Ring { .. } => {}
         }
@@ -40,18 +57,28 @@ impl Tally {
     }
 }
 
+/// The kind or type of what was answered with 3, and the place that was told.
+fn bad_byte(bytes: &[u8], expected: &[u8]) -> Option<(u8, u64)> {
+    let (&answer, rest) = expected.split_first()?;
+    let place = u64::from_be_bytes(*rest.first_chunk()?);
+    (usize::from(answer) == BAD_FIELD).then_some((*bytes.first()?, place))
+}
+
 impl Display for Tally {
     fn fmt(&self, f: &mut Formatter) -> fmt::Result {
-        for (what, answers) in [
-            ("steps", &self.steps),
-            ("freshes", &self.freshes),
-            ("releases", &self.releases),
-            ("echoes", &self.echoes),
+        for (what, answers, places) in [
+            ("steps", &self.steps, self.entry_places.len()),
+            ("freshes", &self.freshes, 0),
+            ("releases", &self.releases, 0),
+            ("echoes", &self.echoes, self.message_places.len()),
         ] {
             write!(f, "{} {what} (", answers.iter().sum::<u64>())?;
             let given = answers.iter().enumerate().filter(|(_, count)| **count > 0);
             let listed: Vec<String> = given
-                .map(|(answer, count)| format!("{answer}: {count}"))
+                .map(|(answer, count)| match places {
+                    1.. if answer == BAD_FIELD => format!("{answer}: {count} at {places} places"),
+                    _ => format!("{answer}: {count}"),
+                })
                 .collect();
             write!(f, "{}), ", listed.join(", "))?;
         }

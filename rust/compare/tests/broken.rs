@@ -3,8 +3,11 @@
 //! A broken host is the second host with one fault switched on: the errors that students really
 //! make, and faults so small that only a comparison of every byte shows them.
 
-use compare::{Beside, Difference, Driver, Host, Proved, Second};
+use std::cell::Cell;
+
+use compare::{Beside, Difference, Driver, Host, Proved, Second, Told};
 use pilaqsevi::Marks;
+use second::tapes::judged::{Field, Judged, of_entry, of_message};
 
 /// The entries within which each fault must show.
 const ENTRIES: u64 = 20_000;
@@ -38,6 +41,15 @@ enum Fault {
     LeavesUnusedRecords,
     ClearsBehindTheMessage,
     WritesBeforeAskingForRoom,
+    TellsATokensFirstByte,
+    TellsTheLastBadField,
+    JudgesTokensBeforeTheStamp,
+    PointsIntoAStamp,
+    CountsFromBehindTheKind,
+    CountsWithoutTheStamp,
+    CountsAMessageAsAnEntry,
+    TellsAPlaceInAWrongLength,
+    KeepsThePlaceWithTheNextAnswer,
 }
 
 const FAULTS: [Fault; 20] = [
@@ -63,12 +75,34 @@ const FAULTS: [Fault; 20] = [
     Fault::WritesBeforeAskingForRoom,
 ];
 
+/// Those that get nothing wrong but the place.
+const MISPLACED: [Fault; 9] = [
+    Fault::TellsATokensFirstByte,
+    Fault::TellsTheLastBadField,
+    Fault::JudgesTokensBeforeTheStamp,
+    Fault::PointsIntoAStamp,
+    Fault::CountsFromBehindTheKind,
+    Fault::CountsWithoutTheStamp,
+    Fault::CountsAMessageAsAnEntry,
+    Fault::TellsAPlaceInAWrongLength,
+    Fault::KeepsThePlaceWithTheNextAnswer,
+];
+
 /// The second host with this fault, or with none.
-struct Broken(Option<Fault>);
+struct Broken {
+    fault: Option<Fault>,
+    /// The place that was told last, for a host that doesn't write it each time.
+    last_place: Cell<usize>,
+}
 
 impl Broken {
+    fn new(fault: Option<Fault>) -> Broken {
+        let last_place = Cell::new(0);
+        Broken { fault, last_place }
+    }
+
     fn has(&self, fault: Fault) -> bool {
-        self.0 == Some(fault)
+        self.fault == Some(fault)
     }
 
     /// What a fault does to an entry before the rules see it.
@@ -88,7 +122,7 @@ impl Broken {
     fn after_done(&self, table: &mut [u8], ring: &mut [u8], marks: Marks, entry: &[u8]) {
         let used = number(&table[4..8]) as usize;
         let next = FIRST_RECORD + RECORD_LEN * used;
-        match self.0 {
+        match self.fault {
             Some(Fault::UsesUpTheReplacementToken) if entry[0] == b'U' => {
                 let replaced = row(table, &entry[23..37]).is_some();
                 if let (false, Some(free)) = (replaced, table.get_mut(next..next + RECORD_LEN)) {
@@ -123,11 +157,11 @@ impl Broken {
         entry: &[u8],
     ) -> u8 {
         let (table, ring, marks) = desk;
-        match (self.0, answer) {
+        match (self.fault, answer) {
             (Some(Fault::DropsTheOldest), 9) => {
                 marks.at = (marks.at + marks.held) % ring.len();
                 marks.held = 0;
-                return Second.step(table, ring, marks, entry);
+                return Second.step(table, ring, marks, entry).answer;
             }
             (Some(Fault::WritesHalfOfOne), 9) => {
                 marks.held = ring.len();
@@ -152,6 +186,66 @@ impl Broken {
         }
         answer
     }
+
+    /// What a fault does to the place that is told of an entry or a message.
+    fn misplace(&self, told: Told, bytes: &[u8], fields: &[Field]) -> Told {
+        let bad = bad_fields(bytes, fields);
+        let place = match (self.fault, told.answer) {
+            (Some(Fault::TellsATokensFirstByte), 3) => bad[0].at,
+            (Some(Fault::TellsTheLastBadField), 3) => bad[bad.len() - 1].place,
+            (Some(Fault::JudgesTokensBeforeTheStamp), 3) => {
+                let token = bad.iter().find(|bad| bad.judged == Judged::Token);
+                token.unwrap_or(&bad[0]).place
+            }
+            // As if the bytes before the first that isn't 0 weren't the stamp's.
+            (Some(Fault::PointsIntoAStamp), 3) if bad[0].judged == Judged::Stamp => {
+                let zeros = bytes[told.place..].iter().take_while(|&&byte| byte == 0);
+                told.place + zeros.count()
+            }
+            (Some(Fault::CountsFromBehindTheKind), 3) => told.place - 1,
+            (Some(Fault::TellsAPlaceInAWrongLength), 2) => bad.first().map_or(0, |bad| bad.place),
+            (Some(Fault::KeepsThePlaceWithTheNextAnswer), other) if other != 3 => {
+                self.last_place.get()
+            }
+            _ => told.place,
+        };
+        self.last_place.set(place);
+        Told { place, ..told }
+    }
+}
+
+/// A bad field: where it begins, where its first bad byte is, and what it is.
+struct Bad {
+    at: usize,
+    place: usize,
+    judged: Judged,
+}
+
+/// The bad ones of an entry's or a message's fields, in the order of their places.
+fn bad_fields(bytes: &[u8], fields: &[Field]) -> Vec<Bad> {
+    let first_byte = |good: bool| (!good).then_some(0);
+    let bad = |&(at, judged): &Field| {
+        let from = bytes.get(at..)?;
+        let byte = match judged {
+            Judged::Stamp => {
+                let stamp = u64::from_be_bytes(*from.first_chunk()?);
+                first_byte(stamp < 86_400_000_000_000)
+            }
+            Judged::Token => {
+                let token: &[u8; 14] = from.first_chunk()?;
+                let illegal = |&byte: &u8| byte != b' ' && !byte.is_ascii_alphanumeric();
+                token.iter().position(illegal)
+            }
+            Judged::Letter(legal) => first_byte(legal.contains(from.first()?)),
+            Judged::Price => {
+                let price = u32::from_be_bytes(*from.first_chunk()?);
+                first_byte((1..=1_999_999_900).contains(&price))
+            }
+        };
+        let place = at + byte?;
+        Some(Bad { at, place, judged })
+    };
+    fields.iter().filter_map(bad).collect()
 }
 
 impl Host for Broken {
@@ -168,14 +262,20 @@ impl Host for Broken {
         answer
     }
 
-    fn step(&self, table: &mut [u8], ring: &mut [u8], marks: &mut Marks, entry: &[u8]) -> u8 {
+    fn step(&self, table: &mut [u8], ring: &mut [u8], marks: &mut Marks, entry: &[u8]) -> Told {
         let entry = self.misread(table, entry);
-        let answer = Second.step(table, ring, marks, &entry);
-        if answer == 0 {
+        let mut told = Second.step(table, ring, marks, &entry);
+        if told.answer == 0 {
             self.after_done(table, ring, *marks, &entry);
-            return answer;
+        } else {
+            told.answer = self.after_refused(told.answer, (table, ring, marks), &entry);
         }
-        self.after_refused(answer, (table, ring, marks), &entry)
+        let kind = entry.first().copied().unwrap_or(0);
+        // An inbound message counts from its type, and its entry has a stamp there.
+        if self.has(Fault::CountsWithoutTheStamp) && b"OUXM".contains(&kind) && told.place > 8 {
+            told.place -= 8;
+        }
+        self.misplace(told, &entry, of_entry(kind))
     }
 
     fn read<'a>(&self, ring: &'a [u8], marks: Marks) -> &'a [u8] {
@@ -199,15 +299,19 @@ impl Host for Broken {
         answer
     }
 
-    fn echo(&self, inbound: bool, message: &[u8], out: &mut [u8]) -> u8 {
-        let answer = Second.echo(inbound, message, out);
-        if self.has(Fault::ClearsBehindTheMessage) && answer == 0 {
+    fn echo(&self, inbound: bool, message: &[u8], out: &mut [u8]) -> Told {
+        let mut told = Second.echo(inbound, message, out);
+        if self.has(Fault::ClearsBehindTheMessage) && told.answer == 0 {
             out[message.len()..].fill(0);
         }
-        if self.has(Fault::WritesBeforeAskingForRoom) && answer == 13 {
+        if self.has(Fault::WritesBeforeAskingForRoom) && told.answer == 13 {
             out.copy_from_slice(&message[..out.len()]);
         }
-        answer
+        if self.has(Fault::CountsAMessageAsAnEntry) && inbound && told.answer == 3 {
+            told.place += 8;
+        }
+        let letter = message.first().copied().unwrap_or(0);
+        self.misplace(told, message, of_message(inbound, letter))
     }
 }
 
@@ -236,27 +340,59 @@ fn difference(host: impl Host) -> Option<Box<Difference>> {
 fn every_fault_is_seen() {
     let unseen: Vec<Fault> = FAULTS
         .into_iter()
-        .filter(|&fault| difference(Broken(Some(fault))).is_none())
+        .chain(MISPLACED)
+        .filter(|&fault| difference(Broken::new(Some(fault))).is_none())
         .collect();
     assert!(unseen.is_empty(), "never seen: {unseen:?}");
 }
 
 #[test]
 fn a_host_without_a_fault_shows_none() {
-    assert!(difference(Broken(None)).is_none());
+    assert!(difference(Broken::new(None)).is_none());
 }
 
 #[test]
 fn a_difference_tells_where_it_is() {
-    let seen = difference(Broken(Some(Fault::MovesTheStampWhenIgnoring)));
-    let told = seen.map(|seen| seen.to_string()).unwrap_or_default();
-    assert!(told.contains("first in the table's header, byte"), "{told}");
-    let seen = difference(Broken(Some(Fault::ClearsBehindTheMessage)));
-    let told = seen.map(|seen| seen.to_string()).unwrap_or_default();
-    assert!(
-        told.contains("first in the written message, byte"),
-        "{told}"
-    );
+    for (fault, part) in [
+        (
+            Fault::MovesTheStampWhenIgnoring,
+            "first in the table's header, byte",
+        ),
+        (Fault::MovesMarksWhenRefusing, "first in the read place"),
+        (Fault::WritesHalfOfOne, "first in the answer"),
+        (Fault::ReleasesOneTooMany, "first in the answer"),
+        (Fault::ForgetsToWrapThePlace, "first in the read place"),
+        (Fault::TouchesOneRingByte, "first in the ring, byte"),
+        (
+            Fault::ClearsBehindTheMessage,
+            "first in the written message, byte",
+        ),
+        (
+            Fault::TellsATokensFirstByte,
+            "first in the place of the bad byte",
+        ),
+        (
+            Fault::CountsAMessageAsAnEntry,
+            "first in the place of the bad byte",
+        ),
+    ] {
+        let seen = difference(Broken::new(Some(fault)));
+        let told = seen.map(|seen| seen.to_string()).unwrap_or_default();
+        assert!(told.contains(part), "{fault:?}: {told}");
+    }
+}
+
+/// Such a host shows nothing else, so that it is found out by that.
+#[test]
+fn a_wrong_place_is_seen_as_one() {
+    for fault in MISPLACED {
+        let seen = difference(Broken::new(Some(fault)));
+        let told = seen.map(|seen| seen.to_string()).unwrap_or_default();
+        assert!(
+            told.contains("the place of the bad byte"),
+            "{fault:?}: {told}"
+        );
+    }
 }
 
 #[test]

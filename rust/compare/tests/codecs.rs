@@ -1,7 +1,7 @@
 //! The readers and writers of all sixteen messages, through the archive: whole, cut, damaged in
 //! every byte and every way, and at random, beside the second host.
 
-use compare::{Host, Proved, Second};
+use compare::{Host, Proved, Second, Told};
 use second::tapes::{Chance, message};
 
 /// What fills a buffer before a call.
@@ -60,17 +60,23 @@ fn example(inbound: bool, letter: u8, length: usize) -> Vec<u8> {
     example
 }
 
-/// What both hosts answer and write into a buffer of so many bytes; a refusal writes nothing.
-fn alike(inbound: bool, message: &[u8], room: usize) -> (u8, Vec<u8>) {
+/// What both hosts tell and write into a buffer of so many bytes; a refusal writes nothing, and only
+/// 3 has a place.
+fn alike(inbound: bool, message: &[u8], room: usize) -> (Told, Vec<u8>) {
     let proved = Proved::linked().unwrap();
     let (mut out, mut right) = (vec![FILL; room], vec![FILL; room]);
-    let answer = proved.echo(inbound, message, &mut out);
-    assert_eq!(answer, Second.echo(inbound, message, &mut right));
+    let told = proved.echo(inbound, message, &mut out);
+    assert_eq!(
+        told,
+        Second.echo(inbound, message, &mut right),
+        "{message:?}"
+    );
     assert_eq!(out, right, "{inbound} {message:?}");
-    if answer != 0 {
+    if told.answer != 0 {
         assert_eq!(out, vec![FILL; room]);
     }
-    (answer, out)
+    assert_eq!(told.place > 0, told.answer == 3, "{told:?}");
+    (told, out)
 }
 
 #[test]
@@ -81,8 +87,8 @@ fn every_message_comes_back() {
         assert_eq!(pilaqsevi::message_length(inbound, letter), Some(length));
         let message = example(inbound, letter, length);
         for behind in 0..3 {
-            let (answer, out) = alike(inbound, &message, length + behind);
-            assert_eq!((answer, &out[..length]), (0, message.as_slice()));
+            let (told, out) = alike(inbound, &message, length + behind);
+            assert_eq!((told.answer, &out[..length]), (0, message.as_slice()));
             assert_eq!(out[length..], vec![FILL; behind]);
         }
     }
@@ -95,10 +101,10 @@ fn every_cut_message_and_every_short_buffer_is_refused() {
         let length = answers.len();
         let longer = example(inbound, letter, 80);
         for cut in (0..=80).filter(|&cut| cut != length) {
-            assert_eq!(alike(inbound, &longer[..cut], 80).0, 2);
+            assert_eq!(alike(inbound, &longer[..cut], 80).0.answer, 2);
         }
         for room in 0..length {
-            assert_eq!(alike(inbound, &longer[..length], room).0, 13);
+            assert_eq!(alike(inbound, &longer[..length], room).0.answer, 13);
         }
     }
 }
@@ -115,7 +121,12 @@ fn every_byte_is_damaged_in_every_way() {
                 alike(inbound, &damaged, 80);
                 alike(!inbound, &damaged, 80);
             }
-            assert_eq!(alike(inbound, &damaged, 80).0 + b'0', answer);
+            let told = alike(inbound, &damaged, 80).0;
+            assert_eq!(told.answer + b'0', answer);
+            // An outbound message opens with its stamp, which is told from its first byte on.
+            let stamp = !inbound && place < 9;
+            let bad = if stamp { 1 } else { place };
+            assert_eq!(told.place, if answer == b'3' { bad } else { 0 });
         }
     }
 }
@@ -133,7 +144,7 @@ fn messages_at_random_are_answered_alike() {
             } else {
                 80
             };
-            answered[usize::from(alike(inbound, &message, room).0)] += 1;
+            answered[usize::from(alike(inbound, &message, room).0.answer)] += 1;
         }
     }
     for answer in [0, 2, 3, 13] {

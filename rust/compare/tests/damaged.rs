@@ -48,19 +48,19 @@ fn enter(place: usize) -> Vec<u8> {
     .concat()
 }
 
-/// What both hosts answer to an entry at this desk, whose every byte and mark they leave alike; a
-/// refusal changes none.
+/// What both hosts answer to an entry at this desk, with the same place; they leave every byte and
+/// mark alike, and a refusal changes none.
 fn alike(proved: &Proved, desk: &Desk, entry: &[u8]) -> u8 {
     let step = |host: &dyn Host, after: &mut Desk| {
         let Desk { table, ring, marks } = after;
         host.step(table, ring, marks, entry)
     };
     let (mut after, mut right) = (desk.clone(), desk.clone());
-    let answer = step(proved, &mut after);
-    assert_eq!(answer, step(&Second, &mut right), "{desk:?} {entry:?}");
+    let told = step(proved, &mut after);
+    assert_eq!(told, step(&Second, &mut right), "{desk:?} {entry:?}");
     assert!(after == right, "{desk:?} {entry:?}");
-    assert!(answer == 0 || after == *desk, "{desk:?} {entry:?}");
-    answer
+    assert!(told.answer == 0 || after == *desk, "{desk:?} {entry:?}");
+    told.answer
 }
 
 /// Of the 255 other values of the byte at this place, how many leave the table sound, and how many

@@ -4,6 +4,7 @@ use std::collections::BTreeSet;
 
 use compare::{Command, Desk, Difference, Driver, Second, Sink};
 use pilaqsevi::Marks;
+use second::tapes::judged::{self, places};
 
 /// All commands of a script.
 #[derive(Default)]
@@ -152,6 +153,42 @@ fn a_script_reaches_every_answer_message_and_reason() {
     wanted.extend([0, 11, 12].map(|answer| format!("L {answer}")));
     wanted.retain(|what| !seen.contains(what));
     assert!(wanted.is_empty(), "never seen: {wanted:?}");
+}
+
+/// Takes every command and says nothing.
+struct Unheard;
+
+impl Sink for Unheard {
+    fn take(&mut self, _: &Command, _: &[u8]) -> Result<(), Box<Difference>> {
+        Ok(())
+    }
+}
+
+/// Every byte of every kind and message that can be told as bad: each character of a token, and the
+/// first byte of what is bad as a whole.
+#[test]
+fn a_script_reaches_every_place() {
+    let tally = Driver::drive(1, 200_000, Unheard).unwrap();
+    let mut unseen = Vec::new();
+    for &kind in judged::ENTRIES {
+        let places = places(judged::of_entry(kind)).into_iter();
+        unseen.extend(places.map(|place| (None, kind, place as u64)));
+    }
+    let inbound = judged::INBOUND.iter().map(|&letter| (true, letter));
+    let outbound = judged::OUTBOUND.iter().map(|&letter| (false, letter));
+    for (inbound, letter) in inbound.chain(outbound) {
+        let places = places(judged::of_message(inbound, letter)).into_iter();
+        unseen.extend(places.map(|place| (Some(inbound), letter, place as u64)));
+    }
+    assert_eq!(unseen.len(), 174 + 254);
+    unseen.retain(|&(echoed, kind, place)| match echoed {
+        None => !tally.entry_places.contains(&(kind, place)),
+        Some(inbound) => !tally.message_places.contains(&(inbound, kind, place)),
+    });
+    assert!(unseen.is_empty(), "never seen: {unseen:?}");
+    let told = tally.to_string();
+    assert!(told.contains(" at 174 places"), "{told}");
+    assert!(told.contains(" at 254 places"), "{told}");
 }
 
 /// Lengths above the paper's are tried too.

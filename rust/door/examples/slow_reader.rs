@@ -52,7 +52,7 @@ fn send(mut tape: &[u8], ring: usize, told: &mut impl Write) -> io::Result<Vec<u
         threshold: 1_000_000,
         firms: &[*b"ABCD"],
     };
-    let refused = |answer| io::Error::other(format!("no desk: {answer:?}"));
+    let refused = |answer| io::Error::other(format!("no desk, {answer}"));
     let mut desk = Desk::new(settings, MOST_RECORDS, ring).map_err(refused)?;
     let mut sent = Vec::new();
     let mut answer = Answer::Done;
@@ -78,7 +78,7 @@ fn offer_until_taken(
     let (kind, ring) = (char::from(entry[0]), desk.ring().len());
     loop {
         let answer = desk.offer(entry);
-        write!(told, "{kind} {answer:?}, {} of {ring} held", desk.held())?;
+        write!(told, "{kind} {answer}, {} of {ring} held", desk.held())?;
         if answer != Answer::Blocked {
             writeln!(told)?;
             return Ok(answer);

@@ -1,56 +1,107 @@
-//! What a call answers, under the core's names.
+//! What a call answers, under the core's names, and with a bad field where it is bad.
 
-/// An answer; its discriminant is the paper's number.
+use std::error::Error;
+use std::fmt::{self, Display, Formatter};
+
+/// An answer. It prints as the paper's number and what that means: `9: blocked`, or
+/// `3: bad byte at 24` where a byte of an entry or a message was bad.
+///
+/// ```
+/// use pilaqsevi::Answer;
+///
+/// let answer = Answer::BadField { place: 24 };
+/// assert_eq!((answer.number(), answer.place()), (3, 24));
+/// assert_eq!(answer.to_string(), "3: bad byte at 24");
+/// ```
 #[derive(Clone, Copy, Debug, PartialEq, Eq, Hash)]
-#[repr(u8)]
 #[must_use]
 pub enum Answer {
     /// The only answer that changes anything.
-    Done = 0,
+    Done,
     /// The rules ignore the entry.
-    Ignored = 1,
+    Ignored,
     /// An unknown kind or type, or a length that isn't its.
-    Malformed = 2,
-    /// A bad stamp, token or letter, a bad price of p, or bad settings.
-    BadField = 3,
+    Malformed,
+    /// A bad stamp, token or letter, or a bad price of p. Of several bad fields the first is told.
+    BadField {
+        /// The offset of the bad byte, the kind or type being byte 0: the field's first one or, in a
+        /// token, the first character that no token has.
+        place: usize,
+    },
     /// The stamp is below the last one.
-    TooEarly = 4,
+    TooEarly,
     /// The token isn't live.
-    NotLive = 5,
+    NotLive,
     /// Shares are 0 or above what is open.
-    WrongShares = 6,
+    WrongShares,
     /// The wrong moment for this entry.
-    WrongMoment = 7,
+    WrongMoment,
     /// No record is free, or no reference is left.
-    Full = 8,
+    Full,
     /// The message is longer than what is free in the ring. The entry may be offered again once
     /// bytes were released, and comes to the same.
-    Blocked = 9,
+    Blocked,
     /// The table isn't sound.
-    NotSound = 10,
+    NotSound,
     /// The ring's length or its marks are wrong.
-    WrongRing = 11,
+    WrongRing,
     /// More was to be released than is held.
-    NotHeld = 12,
+    NotHeld,
     /// The buffer is too short for the echo's message.
-    NoRoom = 13,
+    NoRoom,
+    /// Number 3 as well: a bad threshold or bad firms. Only a fresh table has settings, and they have
+    /// no place. It stands last so that the others' order is their numbers'.
+    BadSettings,
 }
 
 impl Answer {
     /// The paper's number.
+    #[inline]
     pub fn number(self) -> u8 {
-        self as u8
+        match self {
+            Answer::Done => 0,
+            Answer::Ignored => 1,
+            Answer::Malformed => 2,
+            Answer::BadField { .. } | Answer::BadSettings => 3,
+            Answer::TooEarly => 4,
+            Answer::NotLive => 5,
+            Answer::WrongShares => 6,
+            Answer::WrongMoment => 7,
+            Answer::Full => 8,
+            Answer::Blocked => 9,
+            Answer::NotSound => 10,
+            Answer::WrongRing => 11,
+            Answer::NotHeld => 12,
+            Answer::NoRoom => 13,
+        }
     }
 
-    /// The answer of a number. The proved functions give these only, so that another one means
-    /// that some other archive was linked.
+    /// The paper's place: the bad byte's offset with [`Answer::BadField`], and 0 with any other.
+    #[inline]
+    pub fn place(self) -> usize {
+        match self {
+            Answer::BadField { place } => place,
+            _ => 0,
+        }
+    }
+
+    /// The answer of a call that has no place to tell.
     #[inline]
     pub(crate) fn of(number: u8) -> Answer {
         match number {
+            // By itself: a caller that goes on where all is done then asks for one number only.
             0 => Answer::Done,
+            _ => Answer::refused(number),
+        }
+    }
+
+    /// The other ones. The proved functions give these numbers only, so that another one means that
+    /// some other archive was linked.
+    fn refused(number: u8) -> Answer {
+        match number {
             1 => Answer::Ignored,
             2 => Answer::Malformed,
-            3 => Answer::BadField,
+            3 => Answer::BadSettings,
             4 => Answer::TooEarly,
             5 => Answer::NotLive,
             6 => Answer::WrongShares,
@@ -61,14 +112,59 @@ impl Answer {
             11 => Answer::WrongRing,
             12 => Answer::NotHeld,
             13 => Answer::NoRoom,
-            _ => no_answer(number),
+            _ => no_answer(number, 0),
+        }
+    }
+
+    /// The answer of a step or an echo. Only 3 comes with a place: one beside another number isn't
+    /// dropped, since it, too, means that some other archive was linked.
+    #[inline]
+    pub(crate) fn at(number: u8, place: usize) -> Answer {
+        match (number, place) {
+            (3, place) => Answer::BadField { place },
+            (number, 0) => Answer::of(number),
+            _ => no_answer(number, place),
+        }
+    }
+
+    /// What the number means.
+    fn meaning(self) -> &'static str {
+        match self {
+            Answer::Done => "done",
+            Answer::Ignored => "ignored",
+            Answer::Malformed => "unknown kind or wrong length",
+            Answer::BadField { .. } => "bad byte",
+            Answer::BadSettings => "bad setting",
+            Answer::TooEarly => "stamp below the last",
+            Answer::NotLive => "token not live",
+            Answer::WrongShares => "shares 0 or above open",
+            Answer::WrongMoment => "wrong moment",
+            Answer::Full => "no record or reference left",
+            Answer::Blocked => "blocked",
+            Answer::NotSound => "table not sound",
+            Answer::WrongRing => "wrong ring length or marks",
+            Answer::NotHeld => "more than is held",
+            Answer::NoRoom => "buffer too short",
         }
     }
 }
 
+impl Display for Answer {
+    fn fmt(&self, f: &mut Formatter) -> fmt::Result {
+        write!(f, "{}: {}", self.number(), self.meaning())?;
+        match self {
+            Answer::BadField { place } => write!(f, " at {place}"),
+            _ => Ok(()),
+        }
+    }
+}
+
+/// So that `?` hands on what is wrong with a [`Desk`](crate::Desk), whatever a program's own errors.
+impl Error for Answer {}
+
 #[cold]
-fn no_answer(number: u8) -> ! {
-    panic!("the archive answered {number}, which is no answer")
+fn no_answer(number: u8, place: usize) -> ! {
+    panic!("the archive answered {number} at {place}, which is no answer")
 }
 
 #[cfg(test)]
@@ -79,12 +175,43 @@ mod tests {
     fn each_answer_is_the_answer_of_its_number() {
         for number in 0..14 {
             assert_eq!(Answer::of(number).number(), number);
+            assert_eq!(Answer::of(number).place(), 0);
+            assert_eq!(Answer::at(number, 0).number(), number);
+            assert_eq!(Answer::at(number, 0).place(), 0);
         }
     }
 
     #[test]
-    #[should_panic(expected = "answered 14")]
+    fn a_bad_field_has_a_place_and_bad_settings_have_none() {
+        let bad = Answer::at(3, 24);
+        assert_eq!(bad, Answer::BadField { place: 24 });
+        assert_eq!((bad.number(), bad.place()), (3, 24));
+        assert_eq!(Answer::of(3), Answer::BadSettings);
+    }
+
+    #[test]
+    fn an_answer_prints_its_number_and_what_it_means() {
+        for (answer, printed) in [
+            (Answer::at(3, 24), "3: bad byte at 24"),
+            (Answer::of(3), "3: bad setting"),
+            (Answer::at(0, 0), "0: done"),
+            (Answer::at(2, 0), "2: unknown kind or wrong length"),
+            (Answer::at(9, 0), "9: blocked"),
+            (Answer::of(12), "12: more than is held"),
+        ] {
+            assert_eq!(answer.to_string(), printed);
+        }
+    }
+
+    #[test]
+    #[should_panic(expected = "answered 14 at 0")]
     fn no_answer_has_a_higher_number() {
         let _ = Answer::of(14);
+    }
+
+    #[test]
+    #[should_panic(expected = "answered 9 at 24")]
+    fn no_other_answer_has_a_place() {
+        let _ = Answer::at(9, 24);
     }
 }

@@ -23,6 +23,11 @@ pub struct Settings<'a> {
 /// assert_eq!(desk.offer(b"s\0\0\0\0\0\0\0\x01S"), Answer::Done);
 /// assert_eq!(desk.read(), b"S\0\0\0\0\0\0\0\x01S");
 /// assert_eq!(desk.release(10), Answer::Done);
+///
+/// // A Cancel whose token has a dash: its first byte is 9, and the dash is the third from there.
+/// let answer = desk.offer(b"X\0\0\0\0\0\0\0\x02AB-D          \0\0\0\0");
+/// assert_eq!(answer, Answer::BadField { place: 11 });
+/// assert_eq!(answer.to_string(), "3: bad byte at 11");
 /// # Ok(()) }
 /// ```
 #[derive(Clone, Debug, PartialEq, Eq)]
@@ -35,7 +40,7 @@ pub struct Desk {
 impl Desk {
     /// A fresh table of so many records (1 to 800) and an empty ring of so many bytes (80 to
     /// 65,536), or what is wrong with them: [`Answer::NotSound`] for the records, then
-    /// [`Answer::BadField`] for the settings, then [`Answer::WrongRing`] for the ring.
+    /// [`Answer::BadSettings`] for the settings, then [`Answer::WrongRing`] for the ring.
     pub fn new(settings: Settings, records: usize, ring_bytes: usize) -> Result<Desk, Answer> {
         // A number above the most is as wrong as any other, and no reason to ask for memory.
         let mut table = vec![0; table_size(records.min(MOST_RECORDS + 1))];
@@ -46,7 +51,8 @@ impl Desk {
         Ok(Desk { table, ring, marks })
     }
 
-    /// Offers one entry. Where it is [`Answer::Blocked`], release some bytes and offer it again.
+    /// Offers one entry. Where it is [`Answer::Blocked`], release some bytes and offer it again;
+    /// where it is [`Answer::BadField`], the answer says which byte was bad.
     pub fn offer(&mut self, entry: &[u8]) -> Answer {
         step(&mut self.table, &mut self.ring, &mut self.marks, entry)
     }

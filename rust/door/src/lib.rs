@@ -19,6 +19,10 @@ pub use limits::{
     MOST_RECORDS, RECORD_SIZE, SHORTEST_RING, table_size,
 };
 
+/// What a place is before a call: every call writes it, and one that did not would be found out by
+/// this, which is no place.
+const UNTOLD: usize = usize::MAX;
+
 /// Where the held bytes of a ring begin and how many they are. A new ring has zeros.
 #[derive(Clone, Copy, Debug, Default, PartialEq, Eq)]
 pub struct Marks {
@@ -39,7 +43,7 @@ pub fn absent() -> Option<&'static str> {
 /// is the default; each 1 to 4 capitals, then spaces).
 ///
 /// A table is 64 + 80n bytes with n from 1 to 800, or the answer is [`Answer::NotSound`]; then
-/// bad settings are [`Answer::BadField`].
+/// bad settings are [`Answer::BadSettings`].
 #[inline]
 pub fn fresh(table: &mut [u8], threshold: u32, firms: &[[u8; 4]]) -> Answer {
     let firms = firms.as_flattened();
@@ -59,12 +63,14 @@ pub fn fresh(table: &mut [u8], threshold: u32, firms: &[[u8; 4]]) -> Answer {
 /// Offers one entry to the host that the table's bytes describe.
 ///
 /// A done entry changes the table and puts at most one message behind the ring's held bytes. A
-/// blocked one ([`Answer::Blocked`]) may be offered again once bytes have been released.
+/// blocked one ([`Answer::Blocked`]) may be offered again once bytes have been released. A bad one
+/// ([`Answer::BadField`]) tells its first bad byte, counted from the kind as 0.
 #[inline]
 pub fn step(table: &mut [u8], ring: &mut [u8], marks: &mut Marks, entry: &[u8]) -> Answer {
+    let mut place = UNTOLD;
     // SAFETY: each pointer comes with the length of its slice or is to one number, the borrows are
     // apart and last through the call, and the function keeps no pointer.
-    Answer::of(unsafe {
+    let number = unsafe {
         raw::pq_step(
             table.as_mut_ptr(),
             table.len(),
@@ -74,8 +80,10 @@ pub fn step(table: &mut [u8], ring: &mut [u8], marks: &mut Marks, entry: &[u8]) 
             &mut marks.held,
             entry.as_ptr(),
             entry.len(),
+            &mut place,
         )
-    })
+    };
+    Answer::at(number, place)
 }
 
 /// The longest unbroken run of held bytes from the read place, a part of the ring itself. Over a
@@ -100,20 +108,24 @@ pub fn release(ring_len: usize, marks: &mut Marks, k: usize) -> Answer {
 
 /// Reads one of the sixteen messages and writes it back into `out`; bytes after it stay.
 ///
-/// U and M name two messages each, and `inbound` says which is meant.
+/// U and M name two messages each, and `inbound` says which is meant. A bad message
+/// ([`Answer::BadField`]) tells its first bad byte, counted from the type as 0.
 #[inline]
 pub fn echo(inbound: bool, message: &[u8], out: &mut [u8]) -> Answer {
-    // SAFETY: both pointers come with the lengths of their slices, the borrows are apart and last
-    // through the call, and the function keeps no pointer.
-    Answer::of(unsafe {
+    let mut place = UNTOLD;
+    // SAFETY: each pointer comes with the length of its slice or is to one number, the borrows are
+    // apart and last through the call, and the function keeps no pointer.
+    let number = unsafe {
         raw::pq_echo(
             u8::from(inbound),
             message.as_ptr(),
             message.len(),
             out.as_mut_ptr(),
             out.len(),
+            &mut place,
         )
-    })
+    };
+    Answer::at(number, place)
 }
 
 /// The length of an entry of this kind, its byte of kind and its stamp included.

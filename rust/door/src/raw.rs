@@ -21,7 +21,8 @@ macro_rules! archive {
     };
 }
 
-// A pointer is to as many bytes as the length behind it says; `at` and `held` are to one number.
+// A pointer is to as many bytes as the length behind it says; `at`, `held` and `place` are to one
+// number, and `place` is written by every call that has one.
 archive! {
     /// Makes the table fresh; the firms are 4 bytes each, one after the other, and `firms_len`
     /// counts bytes.
@@ -29,10 +30,10 @@ archive! {
         table: *mut u8, table_len: usize, threshold: u32, firms: *const u8, firms_len: usize
     ) -> u8;
 
-    /// Offers one entry.
+    /// Offers one entry, and tells its first bad byte.
     fn pq_step(
         table: *mut u8, table_len: usize, ring: *mut u8, ring_len: usize,
-        at: *mut usize, held: *mut usize, entry: *const u8, entry_len: usize
+        at: *mut usize, held: *mut usize, entry: *const u8, entry_len: usize, place: *mut usize
     ) -> u8;
 
     /// The length of the run that starts at `ring + at`.
@@ -41,9 +42,10 @@ archive! {
     /// Gives up k held bytes.
     fn pq_release(ring_len: usize, at: *mut usize, held: *mut usize, k: usize) -> u8;
 
-    /// Reads the message and writes it back into `out`.
+    /// Reads the message and writes it back into `out`, and tells its first bad byte.
     fn pq_echo(
-        inbound: u8, message: *const u8, len: usize, out: *mut u8, out_len: usize
+        inbound: u8, message: *const u8, len: usize, out: *mut u8, out_len: usize,
+        place: *mut usize
     ) -> u8;
 
     /// The length of an entry of this kind; 0 for no kind.

@@ -105,9 +105,9 @@ fn a_desk_says_what_is_wrong_with_it() {
     assert_eq!(wrong(SETTINGS, 0, 80), Some(Answer::NotSound));
     assert_eq!(wrong(zero, MOST_RECORDS + 1, 79), Some(Answer::NotSound));
     assert_eq!(wrong(SETTINGS, usize::MAX, 80), Some(Answer::NotSound));
-    assert_eq!(wrong(no_firm, 1, 79), Some(Answer::BadField));
-    assert_eq!(wrong(too_many, 1, 80), Some(Answer::BadField));
-    assert_eq!(wrong(zero, 1, 80), Some(Answer::BadField));
+    assert_eq!(wrong(no_firm, 1, 79), Some(Answer::BadSettings));
+    assert_eq!(wrong(too_many, 1, 80), Some(Answer::BadSettings));
+    assert_eq!(wrong(zero, 1, 80), Some(Answer::BadSettings));
     assert_eq!(wrong(SETTINGS, 1, 79), Some(Answer::WrongRing));
     let above = LONGEST_RING + 1;
     assert_eq!(wrong(SETTINGS, 1, above), Some(Answer::WrongRing));
@@ -134,8 +134,8 @@ fn wrong_marks_and_tables_are_refused() {
     let answer = step(&mut table, &mut ring, &mut marks, START);
     assert_eq!(answer, Answer::NotSound);
     assert_eq!(fresh(&mut [], 1, &[*b"A   "]), Answer::NotSound);
-    assert_eq!(fresh(&mut table, 1, &[]), Answer::BadField);
-    assert_eq!(fresh(&mut table, 1, &[*b"A   "; 9]), Answer::BadField);
+    assert_eq!(fresh(&mut table, 1, &[]), Answer::BadSettings);
+    assert_eq!(fresh(&mut table, 1, &[*b"A   "; 9]), Answer::BadSettings);
 }
 
 #[test]
@@ -154,6 +154,28 @@ fn an_echo_writes_the_message_and_no_more() {
     assert_eq!(short, [0x55; 18]);
     assert_eq!(echo(false, &message, &mut out), Answer::Malformed);
     assert_eq!(echo(true, b"", &mut []), Answer::Malformed);
+}
+
+#[test]
+#[cfg_attr(not(archive), ignore = "no archive of the proved functions is linked")]
+fn a_bad_byte_is_told_from_the_kind_and_from_the_type() {
+    let mut desk = Desk::new(SETTINGS, 1, SHORTEST_RING).unwrap();
+    let before = desk.clone();
+    let mut entry = ENTER.to_vec();
+    // A bad sweep, then a bad side, a token bad at its last character and at its fifth, and a stamp.
+    for place in [50, 23, 22, 13, 1] {
+        entry[place] = 0xff;
+        assert_eq!(desk.offer(&entry), Answer::BadField { place });
+        assert_eq!(desk, before);
+    }
+    assert_eq!(desk.offer(&entry[..55]), Answer::Malformed);
+
+    let mut message = [b"O".as_slice(), &ENTER[9..]].concat();
+    for place in [42, 15, 14, 5] {
+        message[place] = b'-';
+        let answer = echo(true, &message, &mut []);
+        assert_eq!(answer.to_string(), format!("3: bad byte at {place}"));
+    }
 }
 
 #[test]

@@ -1,33 +1,79 @@
-//! The paper's answer numbers, under names.
+//! The paper's answers under names, and what a call tells of one: its number and a place.
 
-/// An answer; its discriminant is the paper's number.
+/// An answer. A bad field knows where its first bad byte is; no other answer has a place to tell.
 #[derive(Clone, Copy, Debug, PartialEq, Eq)]
-#[repr(u8)]
 pub enum Answer {
-    Done = 0,
-    Ignored = 1,
-    WrongKindOrLength = 2,
-    BadField = 3,
-    StampBelowLast = 4,
-    NotLive = 5,
-    WrongShares = 6,
-    WrongMoment = 7,
-    NothingFree = 8,
-    NoRoom = 9,
-    TableNotSound = 10,
-    WrongMarks = 11,
-    ReleaseAboveHeld = 12,
-    BufferTooShort = 13,
+    Done,
+    Ignored,
+    WrongKindOrLength,
+    /// 3 from an entry or a message, with the offset of the first bad byte.
+    BadField(usize),
+    /// 3 from the fresh call, whose settings are no entry and have no bytes to count.
+    BadSettings,
+    StampBelowLast,
+    NotLive,
+    WrongShares,
+    WrongMoment,
+    NothingFree,
+    NoRoom,
+    TableNotSound,
+    WrongMarks,
+    ReleaseAboveHeld,
+    BufferTooShort,
 }
 
 impl Answer {
     /// The paper's number.
     pub fn number(self) -> u8 {
-        self as u8
+        match self {
+            Answer::Done => 0,
+            Answer::Ignored => 1,
+            Answer::WrongKindOrLength => 2,
+            Answer::BadField(_) | Answer::BadSettings => 3,
+            Answer::StampBelowLast => 4,
+            Answer::NotLive => 5,
+            Answer::WrongShares => 6,
+            Answer::WrongMoment => 7,
+            Answer::NothingFree => 8,
+            Answer::NoRoom => 9,
+            Answer::TableNotSound => 10,
+            Answer::WrongMarks => 11,
+            Answer::ReleaseAboveHeld => 12,
+            Answer::BufferTooShort => 13,
+        }
     }
 
-    /// The number of a result: 0 where all went well.
-    pub(crate) fn of(result: Result<(), Answer>) -> u8 {
-        result.err().unwrap_or(Answer::Done).number()
+    /// The number and the place.
+    pub fn told(self) -> Told {
+        let place = match self {
+            Answer::BadField(place) => place,
+            _ => 0,
+        };
+        Told {
+            answer: self.number(),
+            place,
+        }
     }
+
+    /// The answer of a result: done where all went well.
+    pub(crate) fn of(result: Result<(), Answer>) -> Answer {
+        result.err().unwrap_or(Answer::Done)
+    }
+
+    /// The answer to bytes that so many others were put before: a place moves on, and nothing else.
+    pub(crate) fn moved_by(self, bytes: usize) -> Answer {
+        match self {
+            Answer::BadField(place) => Answer::BadField(place + bytes),
+            other => other,
+        }
+    }
+}
+
+/// What a step or an echo tells.
+#[derive(Clone, Copy, Debug, PartialEq, Eq)]
+pub struct Told {
+    /// The paper's number.
+    pub answer: u8,
+    /// With 3 the smallest offset of a bad byte, counted from the kind or type; otherwise 0.
+    pub place: usize,
 }

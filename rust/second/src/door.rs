@@ -1,17 +1,18 @@
 //! The doors over the paper's bytes: fresh, step, read and release, total on all inputs.
 
-use crate::answer::Answer;
+use crate::answer::{Answer, Told};
 use crate::host::Host;
 use crate::outbox::{Marks, Outbox, run};
 use crate::table::{HEADER_LEN, Header, Settings, record_count};
 
-/// Makes the table fresh: refuses a bad length with 10, then bad settings with 3.
+/// Makes the table fresh: refuses a bad length with 10, then bad settings with 3. No place is told of
+/// either.
 pub fn fresh(table: &mut [u8], threshold: u32, firms: &[[u8; 4]]) -> u8 {
     if record_count(table.len()).is_none() {
         return Answer::TableNotSound.number();
     }
     let Some(settings) = Settings::of(threshold, firms) else {
-        return Answer::BadField.number();
+        return Answer::BadSettings.number();
     };
     table.fill(0);
     Header::fresh(settings).write(0, &mut table[..HEADER_LEN]);
@@ -25,20 +26,20 @@ pub fn step(
     at: &mut usize,
     held: &mut usize,
     entry: &[u8],
-) -> u8 {
+) -> Told {
     let Some(mut host) = Host::load(table) else {
-        return Answer::TableNotSound.number();
+        return Answer::TableNotSound.told();
     };
     let Some(mut outbox) = Outbox::over(ring, *at, *held) else {
-        return Answer::WrongMarks.number();
+        return Answer::WrongMarks.told();
     };
-    let answer = host.offer(&mut outbox, entry);
-    if answer == Answer::Done.number() {
+    let told = host.offer(&mut outbox, entry);
+    if told == Answer::Done.told() {
         *at = outbox.at();
         *held = outbox.held();
         table.copy_from_slice(&host.image());
     }
-    answer
+    told
 }
 
 /// The longest unbroken run of held bytes from the read place, a part of the ring itself.
@@ -57,4 +58,5 @@ pub fn release(ring_len: usize, at: &mut usize, held: &mut usize, k: usize) -> u
         *at = marks.at;
         *held = marks.held;
     }))
+    .number()
 }

@@ -1,13 +1,13 @@
 //! Echo: reads a message and writes it back, so that readers and writers can be compared.
 
-use crate::answer::Answer;
+use crate::answer::{Answer, Told};
 use crate::layout::Message;
 use crate::messages::*;
 
 /// Reads the message (2, then 3) and writes it into `out` (13). A refusal leaves `out` alone.
 ///
 /// U and M name two messages each; `inbound` says which is meant.
-pub fn echo(inbound: bool, message: &[u8], out: &mut [u8]) -> u8 {
+pub fn echo(inbound: bool, message: &[u8], out: &mut [u8]) -> Told {
     let kind = message.first().copied().unwrap_or(0);
     Answer::of(match (inbound, kind) {
         (true, b'O') => back::<Enter>(message, out),
@@ -28,6 +28,7 @@ pub fn echo(inbound: bool, message: &[u8], out: &mut [u8]) -> u8 {
         (false, b'M') => back::<Modified>(message, out),
         _ => Err(Answer::WrongKindOrLength),
     })
+    .told()
 }
 
 fn back<M: Message>(message: &[u8], out: &mut [u8]) -> Result<(), Answer> {

@@ -6,10 +6,11 @@ use crate::layout::{Message, messages};
 use crate::messages::{Cancel, Enter, Modify, Replace};
 use crate::shares::Removed;
 
-/// Where the stamp of every entry ends.
+/// Where the stamp of every entry begins and ends.
+const STAMP_AT: usize = 1;
 const STAMP_END: usize = 9;
 /// The stamp's bytes, by which an entry is longer than the inbound message it carries.
-const STAMP_LEN: usize = 8;
+const STAMP_LEN: usize = STAMP_END - STAMP_AT;
 /// The longest inbound message, Enter.
 const LONGEST_INBOUND: usize = Enter::LEN;
 
@@ -85,7 +86,8 @@ pub enum Entry {
 }
 
 impl Entry {
-    /// Judges kind and length (2), then stamp, tokens, letters and p's price (3).
+    /// Judges kind and length (2), then stamp, tokens, letters and p's price (3 and the first bad
+    /// byte's place).
     pub fn read(bytes: &[u8]) -> Result<Entry, Answer> {
         Ok(match bytes.first() {
             Some(b'O') => stamped(bytes, Entry::Enter)?,
@@ -127,14 +129,16 @@ fn stamped<M: Message>(bytes: &[u8], entry: fn(Stamp, M) -> Entry) -> Result<Ent
     if bytes.len() != M::LEN + STAMP_LEN {
         return Err(Answer::WrongKindOrLength);
     }
+    // The stamp stands before all other fields, so a bad one is told whatever else is bad.
+    let stamp = Stamp::get(&bytes[STAMP_AT..STAMP_END]);
+    if let Some(byte) = stamp.bad_byte() {
+        return Err(Answer::BadField(STAMP_AT + byte));
+    }
     let mut message = [0; LONGEST_INBOUND];
     message[0] = bytes[0];
     message[1..M::LEN].copy_from_slice(&bytes[STAMP_END..]);
-    let stamp = Stamp::get(&bytes[1..STAMP_END]);
-    let message = M::read(&message[..M::LEN])?;
-    if !stamp.good() {
-        return Err(Answer::BadField);
-    }
+    // The message counts without the stamp, which stands before all that it judges.
+    let message = M::read(&message[..M::LEN]).map_err(|refused| refused.moved_by(STAMP_LEN))?;
     Ok(entry(stamp, message))
 }
 

@@ -1,7 +1,7 @@
 //! Field types: how many bytes each takes, and which of them the paper judges.
 //!
-//! A field whose type is a plain number or byte is carried; only the types below with a `good` of
-//! their own are judged. So a layout shows by its types what a reader refuses.
+//! A field whose type is a plain number or byte is carried; only the types below with a `bad_byte`
+//! of their own are judged. So a layout shows by its types what a reader refuses.
 
 /// Nanoseconds of a day; a stamp is below this.
 const DAY_NANOS: u64 = 86_400_000_000_000;
@@ -16,9 +16,14 @@ pub trait Field: Copy {
     fn get(bytes: &[u8]) -> Self;
     /// Writes the value over exactly `LEN` bytes.
     fn put(self, out: &mut [u8]);
+    /// The first bad byte, counted from the field's own first, or nothing where the paper allows the
+    /// value.
+    fn bad_byte(self) -> Option<usize> {
+        None
+    }
     /// Whether the paper allows the value.
     fn good(self) -> bool {
-        true
+        self.bad_byte().is_none()
     }
 }
 
@@ -65,9 +70,9 @@ macro_rules! plain_field {
 }
 pub(crate) use plain_field;
 
-/// Declares a tuple struct that is a judged field.
+/// Declares a tuple struct that is a judged field, and how its first bad byte is found.
 macro_rules! judged_field {
-    ($($(#[$doc:meta])* $name:ident($inner:ty): $good:expr;)*) => {$(
+    ($($(#[$doc:meta])* $name:ident($inner:ty): $bad_byte:expr;)*) => {$(
         $(#[$doc])*
         #[derive(Clone, Copy, Debug, PartialEq, Eq, PartialOrd, Ord, Hash)]
         pub struct $name(pub $inner);
@@ -79,31 +84,36 @@ macro_rules! judged_field {
             fn put(self, out: &mut [u8]) {
                 self.0.put(out);
             }
-            fn good(self) -> bool {
-                let good: fn(&$inner) -> bool = $good;
-                good(&self.0)
+            fn bad_byte(self) -> Option<usize> {
+                let bad_byte: fn(&$inner) -> Option<usize> = $bad_byte;
+                bad_byte(&self.0)
             }
         }
     )*};
 }
 
 judged_field! {
-    /// A token: letters, digits and spaces only.
-    Token([u8; 14]): |token| token.iter().all(|&b| b == b' ' || b.is_ascii_alphanumeric());
+    /// A token: letters, digits and spaces only. It is the one field that is bad at a character.
+    Token([u8; 14]): |token| token.iter().position(|&b| b != b' ' && !b.is_ascii_alphanumeric());
     /// Nanoseconds past midnight.
-    Stamp(u64): |&stamp| stamp < DAY_NANOS;
+    Stamp(u64): |&stamp| first_unless(stamp < DAY_NANOS);
     /// A side as sent in.
-    Side(u8): |side| b"BSTE".contains(side);
+    Side(u8): |side| first_unless(b"BSTE".contains(side));
     /// A sweep letter as sent in.
-    Sweep(u8): |sweep| b"YNy".contains(sweep);
+    Sweep(u8): |sweep| first_unless(b"YNy".contains(sweep));
     /// A liquidity flag of a tape's execution or self match.
-    Flag(u8): |flag| b"AROMCLHKJmkV".contains(flag);
+    Flag(u8): |flag| first_unless(b"AROMCLHKJmkV".contains(flag));
     /// The reason of a book cancel.
-    BookReason(u8): |reason| b"ITSDZE".contains(reason);
+    BookReason(u8): |reason| first_unless(b"ITSDZE".contains(reason));
     /// The code of a system entry.
-    SystemCode(u8): |code| b"SE".contains(code);
+    SystemCode(u8): |code| first_unless(b"SE".contains(code));
     /// The price of a priority entry.
-    PriorityPrice(u32): |price| (1..=HIGHEST_PRICE).contains(price);
+    PriorityPrice(u32): |price| first_unless((1..=HIGHEST_PRICE).contains(price));
+}
+
+/// A number or a letter that isn't good is bad as a whole, so from its first byte on.
+fn first_unless(good: bool) -> Option<usize> {
+    (!good).then_some(0)
 }
 
 /// Whether the bytes are at least one capital and then only spaces.

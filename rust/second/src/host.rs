@@ -2,7 +2,7 @@
 
 use std::collections::HashMap;
 
-use crate::answer::Answer;
+use crate::answer::{Answer, Told};
 use crate::entry::Entry;
 use crate::field::{Field, Stamp, Token};
 use crate::order::{Order, RECORD_LEN, Record};
@@ -75,12 +75,12 @@ impl Host {
         table
     }
 
-    /// Offers one entry; the answer is the paper's number, and only 0 changes anything.
-    pub fn offer<R>(&mut self, outbox: &mut Outbox<R>, entry: &[u8]) -> u8
+    /// Offers one entry; only the answer 0 changes anything.
+    pub fn offer<R>(&mut self, outbox: &mut Outbox<R>, entry: &[u8]) -> Told
     where
         R: AsRef<[u8]> + AsMut<[u8]>,
     {
-        Answer::of(self.take(outbox, entry))
+        Answer::of(self.take(outbox, entry)).told()
     }
 
     /// What the entry comes to is decided without touching anything; then the room it needs is

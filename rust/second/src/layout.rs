@@ -10,8 +10,8 @@ pub trait Fields: Sized {
     fn get(bytes: &[u8]) -> Self;
     /// Writes the fields over bytes that are long enough.
     fn put(&self, out: &mut [u8]);
-    /// Whether every judged field is legal.
-    fn good(&self) -> bool;
+    /// The smallest offset of a bad byte, or nothing where every judged field is legal.
+    fn bad_byte(&self) -> Option<usize>;
 }
 
 /// Fields behind one byte of type or kind, which fixes the length.
@@ -19,29 +19,44 @@ pub trait Message: Fields {
     const KIND: u8;
     const LEN: usize;
 
-    /// Judges length and type (2), then the fields (3).
+    /// Judges length and type (2), then the fields (3 and the place).
     fn read(bytes: &[u8]) -> Result<Self, Answer> {
         if bytes.len() != Self::LEN || bytes[0] != Self::KIND {
             return Err(Answer::WrongKindOrLength);
         }
         let message = Self::get(bytes);
-        if message.good() {
-            Ok(message)
-        } else {
-            Err(Answer::BadField)
+        message.judged()?;
+        Ok(message)
+    }
+
+    /// 3 and the smallest offset of a bad byte, the type's being 0.
+    fn judged(&self) -> Result<(), Answer> {
+        match self.bad_byte() {
+            Some(place) => Err(Answer::BadField(place)),
+            None => Ok(()),
         }
     }
 
-    /// Judges the fields (3), then the room (13); bytes after the message stay.
+    /// Judges the fields (3 and the place), then the room (13); bytes after the message stay.
     fn write(&self, out: &mut [u8]) -> Result<(), Answer> {
-        if !self.good() {
-            return Err(Answer::BadField);
-        }
+        self.judged()?;
         let out = out.get_mut(..Self::LEN).ok_or(Answer::BufferTooShort)?;
         out[0] = Self::KIND;
         self.put(out);
         Ok(())
     }
+}
+
+/// Whether each field begins where the one before it ends, or later.
+pub(crate) const fn ascending(mut places: &[(usize, usize)]) -> bool {
+    let mut end = 0;
+    while let [(at, len), rest @ ..] = places {
+        if *at < end {
+            return false;
+        }
+        (end, places) = (*at + *len, rest);
+    }
+    true
 }
 
 /// Declares a struct of fields and where each stands.
@@ -63,11 +78,15 @@ macro_rules! fields {
                 use $crate::field::Field;
                 $(self.$field.put(&mut out[$at..$at + <$kind as Field>::LEN]);)*
             }
-            fn good(&self) -> bool {
+            fn bad_byte(&self) -> Option<usize> {
                 use $crate::field::Field;
-                true $(&& self.$field.good())*
+                None$(.or_else(|| self.$field.bad_byte().map(|byte| $at + byte)))*
             }
         }
+        // The first bad field is the one with the smallest offset only because of this.
+        const _: () = assert!($crate::layout::ascending(
+            <$name as $crate::layout::Fields>::PLACES
+        ));
     };
 }
 pub(crate) use fields;

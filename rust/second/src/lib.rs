@@ -6,6 +6,7 @@
 //!
 //! - [`fresh`], [`step`], [`read`], [`release`]: the paper's calls over bytes, total on all inputs;
 //! - [`echo`]: reads one of the sixteen messages and writes it back;
+//! - [`Told`]: what a step or an echo says, the number and with 3 the first bad byte's place;
 //! - [`Host`] with [`Outbox`]: the same host kept between steps;
 //! - [`listing`]: what the paper's program prints for a tape;
 //! - [`tapes`]: seeded random tapes, tables and damage for comparing hosts.
@@ -31,7 +32,7 @@ pub mod tapes;
 #[cfg(test)]
 mod tests;
 
-pub use answer::Answer;
+pub use answer::{Answer, Told};
 pub use door::{fresh, read, release, step};
 pub use echo::echo;
 pub use field::{Side, Stamp, Sweep, Token};

@@ -24,7 +24,7 @@ pub fn listing(tape: &[u8]) -> Option<String> {
         let whole = entry_length(kind).filter(|&len| len <= rest.len());
         let (entry, after) = rest.split_at(whole.unwrap_or(0));
         // Nothing of an unknown or cut entry is offered, and nothing offered is answered with 2.
-        let answer = host.offer(&mut outbox, entry);
+        let answer = host.offer(&mut outbox, entry).answer;
         let sent = outbox
             .run()
             .first()

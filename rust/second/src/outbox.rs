@@ -81,7 +81,7 @@ impl<R: AsRef<[u8]>> Outbox<R> {
     /// Gives up k bytes.
     pub fn release(&mut self, k: usize) -> u8 {
         let released = self.marks.released(self.ring.as_ref().len(), k);
-        Answer::of(released.map(|marks| self.marks = marks))
+        Answer::of(released.map(|marks| self.marks = marks)).number()
     }
 }
 

@@ -7,6 +7,7 @@ mod chance;
 pub mod damage;
 mod from_book;
 mod from_client;
+pub mod judged;
 mod look;
 mod made;
 mod messages;
@@ -48,7 +49,7 @@ impl Tapes {
         let entry = match self.chance.below(100) {
             0..=3 => self.sent_again(&look),
             4..=8 => self.sent_again_now(&look),
-            9..=13 => {
+            9..=17 => {
                 let whole = self.sensible(&look);
                 damage::misread(&mut self.chance, whole)
             }

@@ -8,6 +8,7 @@ mod enter;
 mod kit;
 mod listing;
 mod modify;
+mod places;
 mod replace;
 mod ring;
 mod table;

@@ -1,10 +1,15 @@
 //! Damage to tables, marks, ring lengths and entries, mostly right at what the paper judges.
 
 use super::chance::Chance;
+use super::judged::{self, Field, Judged};
 use super::values::STAMPS_END;
 
 /// Bytes on both sides of what a token, a firm or a stock may hold.
 const EDGE_BYTES: &[u8] = b"\0\x1f !/09:@AZ[`az{\x7f\x80\xff-";
+/// Those of them that no token holds.
+const BAD_CHARACTERS: &[u8] = b"\0\x1f!/:@[`{\x7f\x80\xff-";
+/// Letters of all fields, and some of none: each is legal in one place and bad in the next.
+const LETTERS: &[u8] = b"BSTEYNyUQXbse \0ARCLHKJVmkaItdzZDOMn";
 /// 10^18, and the shares of which a chain must stay below.
 const REFERENCES_END: u64 = 10_u64.pow(18);
 const SHARES_END: u32 = 1_000_000;
@@ -199,38 +204,75 @@ pub fn entry(chance: &mut Chance, mut entry: Vec<u8>) -> Vec<u8> {
     entry
 }
 
-/// Damages an entry where a reader looks, so that it is answered 2 or 3.
+/// Damages an entry where a reader looks, so that it is mostly answered 2 or 3.
 pub fn misread(chance: &mut Chance, mut entry: Vec<u8>) -> Vec<u8> {
-    let letter_places: &[usize] = match entry.first() {
-        Some(b'O') => &[23, 50],
-        Some(b'U') => &[50],
-        Some(b'M') => &[23],
-        Some(b'e') => &[31],
-        Some(b'c') => &[27],
-        Some(b'q') => &[35],
-        _ => &[9],
-    };
-    let letters = b"BSTEYNyUQXbse \0ARCLHKJVmkaItdzZD";
-    let token_end = if entry.first() == Some(&b'U') { 37 } else { 23 };
-    let stamps = [STAMPS_END, STAMPS_END + 1, 1 << 63, u64::MAX];
+    let fields = judged::of_entry(entry.first().copied().unwrap_or(0));
     let any = chance.byte();
-    match chance.below(10) {
+    match chance.below(16) {
         0 => write(&mut entry, 0, &[any]),
         1 => write(&mut entry, 0, &[chance.pick(b"OUXMecqplfsSACDEBJPITGo\0")]),
-        2 | 3 => wrong_length(chance, &mut entry),
-        4 | 5 => write(
-            &mut entry,
-            chance.pick(letter_places),
-            &[chance.pick(letters)],
-        ),
-        6 => write(&mut entry, 1, &chance.pick(&stamps).to_be_bytes()),
-        7 => return self::entry(chance, entry),
-        _ => {
-            let place = 9 + chance.place(token_end - 9);
-            write(&mut entry, place, &[chance.pick(EDGE_BYTES)]);
+        2 => wrong_length(chance, &mut entry),
+        3 => {
+            // Bad bytes in what has no right length: they mustn't be told.
+            spoil(chance, &mut entry, fields);
+            wrong_length(chance, &mut entry);
         }
+        4 => return self::entry(chance, entry),
+        5 | 6 => edge(chance, &mut entry, fields),
+        _ => spoil(chance, &mut entry, fields),
     }
     entry
+}
+
+/// Makes one of the fields bad, and often more of them: only the smallest offset may be told. Some
+/// fall on the same token, which is then bad at several characters.
+pub fn spoil(chance: &mut Chance, bytes: &mut [u8], fields: &[Field]) {
+    loop {
+        if let Some(&field) = chance.choose(fields) {
+            spoil_field(chance, bytes, field);
+        }
+        if chance.one_in(2) {
+            return;
+        }
+    }
+}
+
+/// Makes a field bad for sure; a token at one character.
+fn spoil_field(chance: &mut Chance, bytes: &mut [u8], (at, judged): Field) {
+    match judged {
+        Judged::Stamp => {
+            let any = STAMPS_END + chance.below(u64::MAX - STAMPS_END);
+            let stamps = [STAMPS_END, STAMPS_END + 1, 1 << 63, u64::MAX, any];
+            write(bytes, at, &chance.pick(&stamps).to_be_bytes());
+        }
+        Judged::Token => {
+            let character = at + chance.place(14);
+            write(bytes, character, &[chance.pick(BAD_CHARACTERS)]);
+        }
+        Judged::Letter(legal) => {
+            let mut bad = LETTERS.to_vec();
+            bad.push(0xff);
+            bad.retain(|letter| !legal.contains(letter));
+            write(bytes, at, &[chance.pick(&bad)]);
+        }
+        Judged::Price => {
+            let prices = [0, 1_999_999_901, 2_147_483_647, u32::MAX];
+            write(bytes, at, &chance.pick(&prices).to_be_bytes());
+        }
+    }
+}
+
+/// Puts a byte into a token or a letter's place that is just legal there, or just not.
+fn edge(chance: &mut Chance, bytes: &mut [u8], fields: &[Field]) {
+    match chance.choose(fields) {
+        Some((at, Judged::Token)) => {
+            let character = at + chance.place(14);
+            write(bytes, character, &[chance.pick(EDGE_BYTES)]);
+        }
+        Some((at, Judged::Letter(_))) => write(bytes, *at, &[chance.pick(LETTERS)]),
+        // A stamp and a price have edges of their own where they are made.
+        Some((_, Judged::Stamp | Judged::Price)) | None => {}
+    }
 }
 
 /// Cuts the entry or lengthens it.

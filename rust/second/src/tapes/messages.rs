@@ -2,50 +2,63 @@
 
 use super::chance::Chance;
 use super::damage;
+use super::judged::{Field, Judged, of_message};
 use super::values::{STAMPS_END, new_token};
 
-/// Inbound or not, the type, the whole length, and where tokens stand.
-const KINDS: [(bool, u8, usize, &[usize]); 16] = [
-    (true, b'O', 48, &[1]),
-    (true, b'U', 47, &[1, 15]),
-    (true, b'X', 19, &[1]),
-    (true, b'M', 20, &[1]),
-    (false, b'S', 10, &[]),
-    (false, b'A', 66, &[9]),
-    (false, b'U', 80, &[9, 65]),
-    (false, b'C', 28, &[9]),
-    (false, b'D', 37, &[9]),
-    (false, b'E', 40, &[9]),
-    (false, b'B', 32, &[9]),
-    (false, b'J', 24, &[9]),
-    (false, b'P', 23, &[9]),
-    (false, b'I', 23, &[9]),
-    (false, b'T', 36, &[9]),
-    (false, b'M', 28, &[9]),
+/// Inbound or not, the type, and the whole length.
+const KINDS: [(bool, u8, usize); 16] = [
+    (true, b'O', 48),
+    (true, b'U', 47),
+    (true, b'X', 19),
+    (true, b'M', 20),
+    (false, b'S', 10),
+    (false, b'A', 66),
+    (false, b'U', 80),
+    (false, b'C', 28),
+    (false, b'D', 37),
+    (false, b'E', 40),
+    (false, b'B', 32),
+    (false, b'J', 24),
+    (false, b'P', 23),
+    (false, b'I', 23),
+    (false, b'T', 36),
+    (false, b'M', 28),
 ];
 
 /// Whether the caller says inbound, and the message's bytes.
 pub fn message(chance: &mut Chance) -> (bool, Vec<u8>) {
-    let (inbound, kind, len, tokens) = KINDS[chance.place(KINDS.len())];
+    let (inbound, kind, len) = KINDS[chance.place(KINDS.len())];
+    let fields = of_message(inbound, kind);
     let mut message: Vec<u8> = (0..len).map(|_| chance.byte()).collect();
     message[0] = kind;
-    for &at in tokens {
-        message[at..at + 14].copy_from_slice(&new_token(chance));
+    for &field in fields {
+        fill(chance, &mut message, field);
     }
-    if !inbound {
-        let any = chance.below(STAMPS_END);
-        let edge = chance.pick(&[0, STAMPS_END - 1, STAMPS_END, u64::MAX]);
-        let stamp = if chance.one_in(10) { edge } else { any };
-        message[1..9].copy_from_slice(&stamp.to_be_bytes());
-    } else if kind == b'O' || kind == b'M' {
-        message[15] = chance.pick(b"BSTE");
-    }
-    if inbound && (kind == b'O' || kind == b'U') {
-        message[42] = chance.pick(b"YNy");
-    }
-    if chance.one_in(4) {
-        message = damage::entry(chance, message);
+    match chance.below(8) {
+        0 => message = damage::entry(chance, message),
+        1 => damage::spoil(chance, &mut message, fields),
+        2 => {
+            damage::spoil(chance, &mut message, fields);
+            message = damage::entry(chance, message);
+        }
+        _ => {}
     }
     // Now and then the caller says the wrong one, which tells the twins U and M apart.
     (inbound != chance.one_in(30), message)
+}
+
+/// Fills a judged field with what is mostly legal there.
+fn fill(chance: &mut Chance, message: &mut [u8], (at, judged): Field) {
+    match judged {
+        Judged::Stamp => {
+            let any = chance.below(STAMPS_END);
+            let edge = chance.pick(&[0, STAMPS_END - 1, STAMPS_END, u64::MAX]);
+            let stamp = if chance.one_in(10) { edge } else { any };
+            message[at..at + 8].copy_from_slice(&stamp.to_be_bytes());
+        }
+        Judged::Token => message[at..at + 14].copy_from_slice(&new_token(chance)),
+        Judged::Letter(legal) => message[at] = chance.pick(legal),
+        // No message has a price that is judged.
+        Judged::Price => {}
+    }
 }

@@ -380,6 +380,7 @@ fn entries_without_a_message_need_no_room() {
 #[test]
 fn an_empty_table_and_ring_are_refused_quietly() {
     let (mut at, mut held) = (usize::MAX, usize::MAX);
-    assert_eq!(step(&mut [], &mut [], &mut at, &mut held, &[]), 10);
+    let told = step(&mut [], &mut [], &mut at, &mut held, &[]);
+    assert_eq!((told.answer, told.place), (10, 0));
     assert_eq!((at, held), (usize::MAX, usize::MAX));
 }

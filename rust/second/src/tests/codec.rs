@@ -1,107 +1,66 @@
 //! The sixteen messages: lengths, what is judged, what is carried, and the room they need.
 
+use super::kit::{first_bad, told_at};
 use crate::field::{Side, Stamp, Token};
 use crate::messages::*;
 use crate::shares::{Removed, Total};
-use crate::{Answer, Fields, Message, echo};
+use crate::tapes::judged::{Field, Judged, of_message, places};
+use crate::{Answer, Fields, Message, Told, echo};
 
-/// Whether inbound, type, length, and the places of tokens, stamp and judged letters.
+/// Whether inbound, type, and length.
 struct Shape {
     inbound: bool,
     kind: u8,
     len: usize,
-    tokens: &'static [usize],
-    letters: &'static [Letter],
 }
-
-const SIDE: &[u8] = b"BSTE";
-const SWEEP: &[u8] = b"YNy";
 
 const SHAPES: [Shape; 16] = [
-    inbound(b'O', 48, &[1], &[(15, SIDE), (42, SWEEP)]),
-    inbound(b'U', 47, &[1, 15], &[(42, SWEEP)]),
-    inbound(b'X', 19, &[1], &[]),
-    inbound(b'M', 20, &[1], &[(15, SIDE)]),
-    outbound(b'S', 10, &[]),
-    outbound(b'A', 66, &[9]),
-    outbound(b'U', 80, &[9, 65]),
-    outbound(b'C', 28, &[9]),
-    outbound(b'D', 37, &[9]),
-    outbound(b'E', 40, &[9]),
-    outbound(b'B', 32, &[9]),
-    outbound(b'J', 24, &[9]),
-    outbound(b'P', 23, &[9]),
-    outbound(b'I', 23, &[9]),
-    outbound(b'T', 36, &[9]),
-    outbound(b'M', 28, &[9]),
+    shape(true, b'O', 48),
+    shape(true, b'U', 47),
+    shape(true, b'X', 19),
+    shape(true, b'M', 20),
+    shape(false, b'S', 10),
+    shape(false, b'A', 66),
+    shape(false, b'U', 80),
+    shape(false, b'C', 28),
+    shape(false, b'D', 37),
+    shape(false, b'E', 40),
+    shape(false, b'B', 32),
+    shape(false, b'J', 24),
+    shape(false, b'P', 23),
+    shape(false, b'I', 23),
+    shape(false, b'T', 36),
+    shape(false, b'M', 28),
 ];
 
-/// A place and the letters that are legal there.
-type Letter = (usize, &'static [u8]);
-
-const fn inbound(
-    kind: u8,
-    len: usize,
-    tokens: &'static [usize],
-    letters: &'static [Letter],
-) -> Shape {
-    Shape {
-        inbound: true,
-        kind,
-        len,
-        tokens,
-        letters,
-    }
-}
-
-const fn outbound(kind: u8, len: usize, tokens: &'static [usize]) -> Shape {
-    Shape {
-        inbound: false,
-        kind,
-        len,
-        tokens,
-        letters: &[],
-    }
+const fn shape(inbound: bool, kind: u8, len: usize) -> Shape {
+    Shape { inbound, kind, len }
 }
 
 impl Shape {
+    fn fields(&self) -> &'static [Field] {
+        of_message(self.inbound, self.kind)
+    }
+
     /// A legal message whose carried bytes are all different from zero.
     fn message(&self) -> Vec<u8> {
         let mut message: Vec<u8> = (0..self.len).map(|place| 0x80 | place as u8).collect();
         message[0] = self.kind;
-        for &token in self.tokens {
-            message[token..token + 14].copy_from_slice(b"Az 09 aZ  zA1 ");
-        }
-        for &(place, legal) in self.letters {
-            message[place] = legal[0];
-        }
-        if !self.inbound {
-            message[1..9].copy_from_slice(&86_399_999_999_999_u64.to_be_bytes());
+        for &(at, judged) in self.fields() {
+            match judged {
+                Judged::Stamp => {
+                    message[at..at + 8].copy_from_slice(&86_399_999_999_999_u64.to_be_bytes());
+                }
+                Judged::Token => message[at..at + 14].copy_from_slice(b"Az 09 aZ  zA1 "),
+                Judged::Letter(legal) => message[at] = legal[0],
+                Judged::Price => unreachable!("no message has one that is judged"),
+            }
         }
         message
     }
 
-    /// What an echo of this message must answer, by the paper.
-    fn expected(&self, message: &[u8]) -> u8 {
-        let token_bad = self.tokens.iter().any(|&token| {
-            let bytes = &message[token..token + 14];
-            bytes
-                .iter()
-                .any(|&b| !b.is_ascii_alphanumeric() && b != b' ')
-        });
-        let letter_bad = self
-            .letters
-            .iter()
-            .any(|&(place, legal)| !legal.contains(&message[place]));
-        let stamp = message[1..9]
-            .iter()
-            .fold(0_u64, |stamp, &b| stamp << 8 | u64::from(b));
-        let stamp_bad = !self.inbound && stamp >= 86_400_000_000_000;
-        if token_bad || letter_bad || stamp_bad {
-            3
-        } else {
-            0
-        }
+    fn echo(&self, message: &[u8]) -> Told {
+        echo(self.inbound, message, &mut [0; 80])
     }
 }
 
@@ -110,7 +69,7 @@ fn each_message_comes_back_and_bytes_after_it_stay() {
     for shape in &SHAPES {
         let message = shape.message();
         let mut out = vec![0x55; 100];
-        assert_eq!(echo(shape.inbound, &message, &mut out), 0);
+        assert_eq!(echo(shape.inbound, &message, &mut out), told_at(None));
         assert_eq!(
             out,
             [message.as_slice(), &vec![0x55; 100 - shape.len]].concat()
@@ -126,14 +85,14 @@ fn every_byte_of_every_message_is_judged_or_carried() {
                 let mut message = shape.message();
                 message[place] = byte;
                 let mut out = vec![0x55; 80];
-                let answer = echo(shape.inbound, &message, &mut out);
+                let told = echo(shape.inbound, &message, &mut out);
                 assert_eq!(
-                    answer,
-                    shape.expected(&message),
+                    told,
+                    told_at(first_bad(&message, shape.fields())),
                     "{} {place} {byte}",
                     char::from(shape.kind)
                 );
-                let changed = if answer == 0 {
+                let changed = if told.answer == 0 {
                     message.as_slice()
                 } else {
                     &[0x55; 80]
@@ -147,36 +106,45 @@ fn every_byte_of_every_message_is_judged_or_carried() {
 #[test]
 fn stamps_are_judged_on_both_sides() {
     for shape in SHAPES.iter().filter(|shape| !shape.inbound) {
-        for (stamp, answer) in [
-            (0, 0),
-            (86_399_999_999_999, 0),
-            (86_400_000_000_000, 3),
-            (u64::MAX, 3),
+        for (stamp, place) in [
+            (0, None),
+            (86_399_999_999_999, None),
+            // The first two bytes are those of a legal stamp, and yet the field is told from there.
+            (86_400_000_000_000, Some(1)),
+            (u64::MAX, Some(1)),
         ] {
             let mut message = shape.message();
             message[1..9].copy_from_slice(&u64::to_be_bytes(stamp));
-            assert_eq!(echo(false, &message, &mut [0; 80]), answer);
+            assert_eq!(shape.echo(&message), told_at(place));
         }
     }
 }
+
+/// A wrong type or length, of which no place is told whatever else is bad.
+const WRONG: Told = Told {
+    answer: 2,
+    place: 0,
+};
 
 #[test]
 fn length_and_type_come_first() {
     for shape in &SHAPES {
         let mut bad = shape.message();
         bad[1] = 0xff;
+        let longer = [bad.as_slice(), b" "].concat();
         let mut out = [0x55; 100];
-        assert_eq!(echo(shape.inbound, &bad[..shape.len - 1], &mut out), 2);
-        assert_eq!(
-            echo(shape.inbound, &[bad.as_slice(), b" "].concat(), &mut out),
-            2
-        );
-        let answer = echo(!shape.inbound, &bad, &mut out);
-        assert_eq!(answer, 2, "the twins U and M differ in length");
+        for (inbound, message) in [
+            (shape.inbound, &bad[..shape.len - 1]),
+            (shape.inbound, &longer),
+            // The twins U and M differ in length.
+            (!shape.inbound, &bad),
+        ] {
+            assert_eq!(echo(inbound, message, &mut out), WRONG);
+        }
         assert_eq!(out, [0x55; 100]);
     }
-    assert_eq!(echo(true, b"", &mut [0; 80]), 2);
-    assert_eq!(echo(false, b"", &mut [0; 80]), 2);
+    assert_eq!(echo(true, b"", &mut [0; 80]), WRONG);
+    assert_eq!(echo(false, b"", &mut [0; 80]), WRONG);
 }
 
 #[test]
@@ -187,7 +155,7 @@ fn only_the_papers_types_are_known() {
                 .filter(|&len| {
                     let mut message = vec![b' '; len];
                     message.iter_mut().take(1).for_each(|b| *b = kind);
-                    echo(inbound, &message, &mut [0; 90]) == 3
+                    echo(inbound, &message, &mut [0; 90]).answer == 3
                 })
                 .count();
             // Spaces make legal tokens but bad stamps, sides and sweeps; X alone has none of them.
@@ -206,12 +174,54 @@ fn room_is_asked_after_the_fields() {
     for shape in &SHAPES {
         let message = shape.message();
         let mut short = vec![0x55; shape.len - 1];
-        assert_eq!(echo(shape.inbound, &message, &mut short), 13);
+        let told = echo(shape.inbound, &message, &mut short);
+        assert_eq!((told.answer, told.place), (13, 0));
         assert_eq!(short, vec![0x55; shape.len - 1]);
-        assert_eq!(echo(shape.inbound, &message, &mut vec![0x55; shape.len]), 0);
+        let mut enough = vec![0x55; shape.len];
+        assert_eq!(echo(shape.inbound, &message, &mut enough), told_at(None));
         let mut bad = message;
-        bad[if shape.inbound { shape.tokens[0] } else { 1 }] = 0xff;
-        assert_eq!(echo(shape.inbound, &bad, &mut []), 3);
+        bad[1] = 0xff;
+        assert_eq!(echo(shape.inbound, &bad, &mut []), told_at(Some(1)));
+    }
+}
+
+/// Written out once from document 004's offsets, so that the place of every field is in sight.
+#[test]
+fn each_judged_field_of_each_message_tells_its_first_byte() {
+    for shape in &SHAPES {
+        let fields: &[usize] = match (shape.inbound, shape.kind) {
+            (true, b'O' | b'U') => &[1, 15, 42],
+            (true, b'X') => &[1],
+            (true, _) => &[1, 15],
+            (false, b'S') => &[1],
+            (false, b'U') => &[1, 9, 65],
+            (false, _) => &[1, 9],
+        };
+        for &place in fields {
+            let mut message = shape.message();
+            message[place] = 0xff;
+            let kind = char::from(shape.kind);
+            assert_eq!(shape.echo(&message), told_at(Some(place)), "{kind}");
+        }
+        let begin: Vec<usize> = shape.fields().iter().map(|(at, _)| *at).collect();
+        assert_eq!(begin, fields);
+    }
+}
+
+/// Each of a message's judged bytes bad by itself, and any two of them at once.
+#[test]
+fn a_reader_tells_the_smallest_offset_of_a_bad_byte() {
+    for shape in &SHAPES {
+        let judged = places(shape.fields());
+        for &first in &judged {
+            for &other in judged.iter().filter(|&&other| other >= first) {
+                let mut message = shape.message();
+                (message[first], message[other]) = (0xff, 0xff);
+                let kind = char::from(shape.kind);
+                let told = shape.echo(&message);
+                assert_eq!(told, told_at(Some(first)), "{kind} {first} {other}");
+            }
+        }
     }
 }
 
@@ -229,10 +239,10 @@ fn a_writer_judges_values_that_no_reader_saw() {
     let mut out = [0x55; 20];
     let mut odd_side = a_modify();
     odd_side.side = Side(b'X');
-    assert_eq!(odd_side.write(&mut out), Err(Answer::BadField));
-    let mut odd_token = a_modify();
-    odd_token.token = Token([0; 14]);
-    assert_eq!(odd_token.write(&mut out[..0]), Err(Answer::BadField));
+    assert_eq!(odd_side.write(&mut out), Err(Answer::BadField(15)));
+    let mut odd_token = odd_side;
+    odd_token.token = Token(*b"ABCD-F-       ");
+    assert_eq!(odd_token.write(&mut out[..0]), Err(Answer::BadField(5)));
     assert_eq!(
         a_modify().write(&mut out[..19]),
         Err(Answer::BufferTooShort)
@@ -251,7 +261,7 @@ fn a_writer_judges_the_stamp() {
         decrement: Removed(1),
         reason: b'U',
     };
-    assert_eq!(canceled.write(&mut out), Err(Answer::BadField));
+    assert_eq!(canceled.write(&mut out), Err(Answer::BadField(1)));
     assert_eq!(out, [0x55; 28]);
 }
 

@@ -1,6 +1,7 @@
 //! A test's desk: a table, a ring and its marks, with entries written byte by byte from the paper.
 
-use crate::{fresh, read, release, step};
+use crate::tapes::judged::{Field, Judged};
+use crate::{Told, fresh, read, release, step};
 
 pub const ROOMY_RING: usize = 4_096;
 
@@ -56,16 +57,24 @@ impl Desk {
         desk
     }
 
-    /// The step's answer. A refusal may change nothing; a done entry moves the last stamp.
+    /// The step's answer.
     pub fn answer(&mut self, entry: &[u8]) -> u8 {
+        self.told(entry).answer
+    }
+
+    /// What the step tells. A refusal may change nothing; a done entry moves the last stamp; and a
+    /// place is told with 3 only, never the kind's.
+    pub fn told(&mut self, entry: &[u8]) -> Told {
         let before = self.clone();
-        let answer = step(
+        let told = step(
             &mut self.table,
             &mut self.ring,
             &mut self.at,
             &mut self.held,
             entry,
         );
+        let answer = told.answer;
+        assert_eq!(told.place > 0, answer == 3, "{told:?}");
         assert_eq!(self.at, before.at, "a step moves no read place");
         if answer != 0 {
             assert_eq!(
@@ -87,7 +96,7 @@ impl Desk {
                 "the entry's stamp becomes the last"
             );
         }
-        answer
+        told
     }
 
     /// What a done entry sends; the outbox is emptied before and after.
@@ -158,6 +167,29 @@ pub fn number(bytes: &[u8]) -> u64 {
     bytes
         .iter()
         .fold(0, |number, &byte| number << 8 | u64::from(byte))
+}
+
+/// What is told of bytes at this place: 3, or 0 where no byte is bad.
+pub fn told_at(place: Option<usize>) -> Told {
+    Told {
+        answer: if place.is_some() { 3 } else { 0 },
+        place: place.unwrap_or(0),
+    }
+}
+
+/// The smallest offset of a bad byte, each field judged by the paper's words once more.
+pub fn first_bad(bytes: &[u8], fields: &[Field]) -> Option<usize> {
+    let bad = |&(at, judged): &Field| match judged {
+        Judged::Stamp => (number(&bytes[at..at + 8]) >= 86_400_000_000_000).then_some(at),
+        Judged::Token => (at..at + 14)
+            .find(|&place| !matches!(bytes[place], b'A'..=b'Z' | b'a'..=b'z' | b'0'..=b'9' | b' ')),
+        Judged::Letter(legal) => (!legal.contains(&bytes[at])).then_some(at),
+        Judged::Price => {
+            let price = number(&bytes[at..at + 4]);
+            (price == 0 || price > 1_999_999_900).then_some(at)
+        }
+    };
+    fields.iter().filter_map(bad).min()
 }
 
 pub fn token(name: &str) -> [u8; 14] {

@@ -2,9 +2,10 @@
 
 use std::collections::BTreeSet;
 
-use super::kit::{Desk, O, cancel, number, system};
+use super::kit::{Desk, O, cancel, first_bad, number, system, told_at};
+use crate::tapes::judged::{ENTRIES, of_entry, of_message, places};
 use crate::tapes::{Chance, Tapes, damage, message, settings, sound_table, worn_out};
-use crate::{Host, Outbox, echo, fresh, listing, read, release, step};
+use crate::{Host, Outbox, Told, echo, fresh, listing, read, release, step};
 
 /// A table, a ring and marks, and what was seen of answers and messages.
 struct Run {
@@ -44,21 +45,23 @@ impl Run {
     fn step(&mut self, entry: &[u8]) -> u8 {
         let before = (self.table.clone(), self.ring.clone(), self.at, self.held);
         let kept = self.kept_host(entry);
-        let answer = step(
+        let told = step(
             &mut self.table,
             &mut self.ring,
             &mut self.at,
             &mut self.held,
             entry,
         );
+        let answer = told.answer;
         assert_eq!(self.at, before.2);
+        self.check_place(entry, told);
         if answer != 0 {
             let after = (self.table.clone(), self.ring.clone(), self.at, self.held);
             assert_eq!(after, before, "refused with {answer}");
         } else {
             self.check_done(entry, &before.0, &before.1, before.3);
         }
-        let after = (answer, self.table.clone(), self.ring.clone(), self.held);
+        let after = (told, self.table.clone(), self.ring.clone(), self.held);
         assert!(
             kept.is_none_or(|kept| kept == after),
             "the kept host differs"
@@ -68,11 +71,22 @@ impl Run {
     }
 
     /// The same step by a host of its own and an outbox of its own.
-    fn kept_host(&self, entry: &[u8]) -> Option<(u8, Vec<u8>, Vec<u8>, usize)> {
+    fn kept_host(&self, entry: &[u8]) -> Option<(Told, Vec<u8>, Vec<u8>, usize)> {
         let mut host = Host::load(&self.table)?;
         let mut outbox = Outbox::over(self.ring.clone(), self.at, self.held)?;
-        let answer = host.offer(&mut outbox, entry);
-        Some((answer, host.image(), outbox.ring().to_vec(), outbox.held()))
+        let told = host.offer(&mut outbox, entry);
+        Some((told, host.image(), outbox.ring().to_vec(), outbox.held()))
+    }
+
+    /// The place is the first bad byte's, and 0 with every answer but 3.
+    fn check_place(&mut self, entry: &[u8], told: Told) {
+        if told.answer != 3 {
+            assert_eq!(told.place, 0, "{told:?}");
+            return;
+        }
+        assert_eq!(told, told_at(first_bad(entry, of_entry(entry[0]))));
+        let kind = char::from(entry[0]);
+        self.seen.insert(format!("{kind} bad at {}", told.place));
     }
 
     fn check_done(&mut self, entry: &[u8], table: &[u8], ring: &[u8], held: usize) {
@@ -188,6 +202,18 @@ fn tapes_reach_every_answer_message_and_reason() {
     assert!(missing.is_empty(), "never seen: {missing:?}");
 }
 
+/// Every place that a bad byte can be told at, of every kind.
+#[test]
+fn tapes_reach_every_place() {
+    let seen = run_tapes(1_000..3_000, 100);
+    for &kind in ENTRIES {
+        for place in places(of_entry(kind)) {
+            let bad = format!("{} bad at {place}", char::from(kind));
+            assert!(seen.contains(&bad), "never seen: {bad}");
+        }
+    }
+}
+
 #[test]
 fn a_seed_repeats_its_tape() {
     let table = sound_table(&mut Chance::new(5), 20);
@@ -261,7 +287,7 @@ fn damaged_tables_are_judged_alike_by_two_judges_and_never_changed() {
         let before = table.clone();
         let mut ring = [0x5a; 80];
         let (mut at, mut held) = (3, 4);
-        let answer = step(&mut table, &mut ring, &mut at, &mut held, &entry);
+        let answer = step(&mut table, &mut ring, &mut at, &mut held, &entry).answer;
         assert_eq!(answer != 10, sound_by_bytes(&before));
         if answer == 10 {
             unsound += 1;
@@ -336,7 +362,7 @@ fn a_listing_counts_what_steps_do() {
     let (mut tape, mut lines, mut taken, mut bytes) = (Vec::new(), Vec::new(), 0, 0);
     while lines.len() < 300 {
         let entry = tapes.entry(&table);
-        let answer = step(&mut table, &mut ring, &mut at, &mut held, &entry);
+        let answer = step(&mut table, &mut ring, &mut at, &mut held, &entry).answer;
         if answer == 2 {
             continue;
         }
@@ -369,7 +395,14 @@ fn messages_and_settings_are_good_and_bad_in_turn() {
     for _ in 0..4_000 {
         let (inbound, message) = message(&mut chance);
         let mut out = [0x55; 80];
-        let answer = echo(inbound, &message, &mut out);
+        let told = echo(inbound, &message, &mut out);
+        let answer = told.answer;
+        if answer == 3 {
+            let fields = of_message(inbound, message[0]);
+            assert_eq!(told, told_at(first_bad(&message, fields)));
+        } else {
+            assert_eq!(told.place, 0, "{told:?}");
+        }
         let written = if answer == 0 { message.len() } else { 0 };
         assert_eq!(out[..written], message[..written]);
         assert!(out[written..].iter().all(|&byte| byte == 0x55));

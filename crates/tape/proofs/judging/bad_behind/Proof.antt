@@ -1,7 +1,7 @@
 -- Each arm looks at the fields of its shape, in their order. Assumes nothing.
 use Rattle.octets.proofs.Proving.{arith, needs, unasked}
 use Rattle.wire.specs.Layout.{tokenAt, liquidityAt, bookReasonAt, limitPriceAt, systemEventAt, firstBadPlace}
-use Rattle.tape.proofs.Formed.{one, two}
+use Rattle.wire.proofs.Found.{one, two}
 use Rattle.tape.proofs.judging.bad_behind.Statement.{statement}
 use Rattle.tape.proofs.judging.bad_behind.Tie as tie
 
@@ -12,13 +12,13 @@ returns-2 : tie.Need-returns-2
 returns-2 c = rw (c .before .enum-told .given .1) (one (tokenAt 9) _ (c .bad-token .ensures))
 
 returns-3 : tie.Need-returns-3
-returns-3 c = rw (c .before .before .before .before .behind2 .given .1) (two (tokenAt 9) (liquidityAt _) _ (c .earlier .ensures) (c .before .before .bad-token2 .ensures) (c .before .bad-liquidity-flag .ensures))
+returns-3 c = rw (c .before .before .before .before .behind2 .given .1) (two (tokenAt 9) (liquidityAt _) _ (omega arith) (c .earlier .ensures) (c .before .before .bad-token2 .ensures) (c .before .bad-liquidity-flag .ensures))
 
 returns-4 : tie.Need-returns-4
-returns-4 c = rw (c .before .before .before .before .behind3 .given .1) (two (tokenAt 9) (bookReasonAt _) _ (c .earlier2 .ensures) (c .before .before .bad-token3 .ensures) (c .before .bad-book-reason .ensures))
+returns-4 c = rw (c .before .before .before .before .behind3 .given .1) (two (tokenAt 9) (bookReasonAt _) _ (omega arith) (c .earlier2 .ensures) (c .before .before .bad-token3 .ensures) (c .before .bad-book-reason .ensures))
 
 returns-5 : tie.Need-returns-5
-returns-5 c = rw (c .before .before .before .enum-told2 .given .1) (two (tokenAt 9) (limitPriceAt 23) _ (c .earlier3 .ensures) (c .before .before .bad-token4 .ensures) (c .before .bad-limit-price .ensures))
+returns-5 c = rw (c .before .before .before .enum-told2 .given .1) (two (tokenAt 9) (limitPriceAt 23) _ (omega arith) (c .earlier3 .ensures) (c .before .before .bad-token4 .ensures) (c .before .bad-limit-price .ensures))
 
 returns-6 : tie.Need-returns-6
 returns-6 c = rw (c .before .enum-told3 .given .1) (one (systemEventAt 9) _ (c .bad-system-event .ensures))

@@ -1,10 +1,11 @@
 -- A stamp, and what is judged behind it. Assumes nothing.
-use Rattle.octets.proofs.Proving.{_∙_, _≡_, ap, length, subst, sym, unasked}
+use Rattle.octets.proofs.Proving.{_∙_, _≡_, ap, arith, length, subst, sym, unasked}
 use Rattle.wire.specs.Layout.{stampAt, place}
+use Rattle.wire.proofs.Found.{behind}
 use Rattle.tape.specs.Kinds.{kindOf}
 use Rattle.tape.specs.Entries.{badPlaceOf}
 use Rattle.tape.specs.Behind.{behindOf, judgedFields, Within}
-use Rattle.tape.proofs.Formed.{formed, stamp-fits, within, judged, behind}
+use Rattle.tape.proofs.Formed.{formed, stamp-fits, within, judged}
 use Rattle.tape.proofs.judging.first_bad.Statement.{statement}
 use Rattle.tape.proofs.judging.first_bad.Tie as tie
 
@@ -21,7 +22,7 @@ returns c =
     let p = c .before .before .before .before .before in
     let s = p .args .entry .now in
     let b = c .before .before .behind-of .ensures ∙ ap behindOf (p .pre .0) in
-    behind (stampAt 1) (judgedFields (behindOf (kindOf s))) s (c .earlier .ensures) (c .before .before .before .bad-stamp .ensures)
+    behind (stampAt 1) (judgedFields (behindOf (kindOf s))) s (omega arith) (c .earlier .ensures) (c .before .before .before .bad-stamp .ensures)
     (rw b at (c .before .bad-behind .ensures))
     ∙ sym (ap place (judged (kindOf s) s (formed s (p .pre .1) .known)))
 

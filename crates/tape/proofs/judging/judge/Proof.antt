@@ -1,6 +1,7 @@
 -- 2 where it is not well formed; else what its first bad place answers. Assumes nothing.
-use Rattle.octets.proofs.Proving.{_∙_, _≡_, ap, needs, sym, unasked}
-use Rattle.tape.specs.Behind.{answerFor}
+use Rattle.octets.proofs.Proving.{_∙_, _≡_, ap, needs, sym, unasked, ℕ}
+use Rattle.answers.specs.declared.Answer.the-variants.{Done}
+use Rattle.wire.specs.Messages.{placeAnswer}
 use Rattle.tape.proofs.Formed.{answer-judged, answer-malformed}
 use Rattle.tape.proofs.judging.judge.Statement.{statement}
 use Rattle.tape.proofs.judging.judge.Tie as tie
@@ -9,7 +10,7 @@ returns : tie.Need-returns
 returns c =
     let w = c .before .before .before in
     c .answer-for .ensures
-    ∙ ap answerFor (c .before .first-bad .ensures)
+    ∙ ap (λ (p : ℕ). placeAnswer p Done) (c .before .first-bad .ensures)
     ∙ answer-judged _ (sym (w .well-formed .ensures) ∙ c .before .before .if1 .taken)
 
 returns-2 : tie.Need-returns-2

@@ -1,7 +1,8 @@
 -- Each arm asks about the fields that its message judges, in their order. Assumes nothing.
-use Rattle.octets.proofs.Proving.{arith, needs, unasked}
-use Rattle.wire.specs.Layout.{badPlace, firstBadPlace}
-use Rattle.wire.proofs.Numbered.{inbound-long, fits-from, last-inbound, place-earlier, or-none}
+use Rattle.octets.proofs.Proving.{_+_, arith, needs, unasked}
+use Rattle.wire.specs.Layout.{tokenAt, sideAt, sweepAt, badPlace, firstBadPlace}
+use Rattle.wire.proofs.Numbered.{inbound-long, fits-from, last-inbound}
+use Rattle.wire.proofs.Found.{one, two, three}
 use Rattle.wire.proofs.judge.bad_inbound.Statement.{statement}
 use Rattle.wire.proofs.judge.bad_inbound.Tie as tie
 
@@ -21,26 +22,31 @@ returns : tie.Need-returns
 unfolding firstBadPlace badPlace
 returns c =
     let p = c .before .before .before .before in
-    rw (p .match .keys1, c .earlier2 .ensures, c .before .earlier .ensures)
-    (rw (c .before .before .bad-sweep .ensures, c .before .before .before .bad-side .ensures, p .before .bad-token .ensures) (simp (place-earlier, or-none)))
+    let from = p .before .before .before .args .from in
+    rw (p .match .keys1)
+    (three (tokenAt (1 + from)) (sideAt (15 + from)) (sweepAt (42 + from)) _ (omega arith) (omega arith) (c .earlier2 .ensures) (c .before .earlier .ensures)
+    (p .before .bad-token .ensures) (c .before .before .before .bad-side .ensures) (c .before .before .bad-sweep .ensures))
 
 returns-2 : tie.Need-returns-2
 unfolding firstBadPlace badPlace
 returns-2 c =
     let p = c .before .before .before .before in
-    rw (p .match .keys2, c .earlier4 .ensures, c .before .earlier3 .ensures)
-    (rw (c .before .before .bad-sweep2 .ensures, c .before .before .before .bad-token2 .ensures, p .before .bad-token .ensures) (simp (place-earlier, or-none)))
+    let from = p .before .before .before .args .from in
+    rw (p .match .keys2)
+    (three (tokenAt (1 + from)) (tokenAt (15 + from)) (sweepAt (42 + from)) _ (omega arith) (omega arith) (c .earlier4 .ensures) (c .before .earlier3 .ensures)
+    (p .before .bad-token .ensures) (c .before .before .before .bad-token2 .ensures) (c .before .before .bad-sweep2 .ensures))
 
 returns-3 : tie.Need-returns-3
 unfolding firstBadPlace badPlace
-returns-3 c = rw (c .match .keys3, c .before .bad-token .ensures) (simp or-none)
+returns-3 c = rw (c .match .keys3) (one (tokenAt (1 + c .before .before .before .args .from)) _ (c .before .bad-token .ensures))
 
 returns-4 : tie.Need-returns-4
 unfolding firstBadPlace badPlace
 returns-4 c =
     let p = c .before .before in
-    rw (last-inbound (p .before .before .before .pre .0) (p .match .rest .0 .0 .1) (p .match .rest .0 .1) (p .match .rest .1), c .earlier5 .ensures)
-    (rw (c .before .bad-side2 .ensures, p .before .bad-token .ensures) (simp (place-earlier, or-none)))
+    let from = p .before .before .before .args .from in
+    rw (last-inbound (p .before .before .before .pre .0) (p .match .rest .0 .0 .1) (p .match .rest .0 .1) (p .match .rest .1))
+    (two (tokenAt (1 + from)) (sideAt (15 + from)) _ (omega arith) (c .earlier5 .ensures) (p .before .bad-token .ensures) (c .before .bad-side2 .ensures))
 
 pub bad-inbound-spec : {M : Type 1} → statement M
 bad-inbound-spec =

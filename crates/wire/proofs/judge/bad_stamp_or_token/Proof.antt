@@ -1,5 +1,7 @@
 -- A stamp and a token are all that is judged; from number 16 on there is no message, and nothing of it is bad. Assumes nothing.
-use Rattle.octets.proofs.Proving.{_≤_, arith, length, sym, unasked}
+use Rattle.octets.proofs.Proving.{_∙_, _≤_, arith, length, sym, unasked}
+use Rattle.wire.specs.Layout.{stampAt, tokenAt}
+use Rattle.wire.proofs.Found.{two}
 use Rattle.wire.proofs.Numbered.{long, stamp-or-token, no-message-place}
 use Rattle.wire.proofs.judge.bad_stamp_or_token.Statement.{statement}
 use Rattle.wire.proofs.judge.bad_stamp_or_token.Tie as tie
@@ -12,8 +14,8 @@ returns : tie.Need-returns
 returns c =
     let there = c .before .before .before in
     let start = there .before .before in
-    rw (c .earlier .ensures, c .before .bad-token .ensures, c .before .before .bad-stamp .ensures)
-    (sym (stamp-or-token (start .args .s .now) (start .args .k) (there .if1 .taken) (start .pre .0 .0) (start .pre .0 .1)))
+    two (stampAt 1) (tokenAt 9) _ (omega arith) (c .earlier .ensures) (c .before .before .bad-stamp .ensures) (c .before .bad-token .ensures)
+    ∙ sym (stamp-or-token (start .args .s .now) (start .args .k) (there .if1 .taken) (start .pre .0 .0) (start .pre .0 .1))
 
 returns-2 : tie.Need-returns-2
 returns-2 c = sym (no-message-place _ _ (c .if1 .left))

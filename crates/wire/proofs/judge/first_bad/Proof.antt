@@ -1,7 +1,8 @@
 -- Each arm asks about the fields that its message's layout judges, in their order. Assumes nothing.
 use Rattle.octets.proofs.Proving.{List, _∙_, ap, arith, needs, unasked}
-use Rattle.wire.specs.Layout.{Field, badPlace, firstBadPlace, place}
-use Rattle.wire.proofs.Numbered.{fits, unmoved, place-earlier, or-none}
+use Rattle.wire.specs.Layout.{Field, stampAt, tokenAt, badPlace, firstBadPlace, place}
+use Rattle.wire.proofs.Numbered.{fits, unmoved}
+use Rattle.wire.proofs.Found.{one, three}
 use Rattle.wire.proofs.judge.first_bad.Statement.{statement}
 use Rattle.wire.proofs.judge.first_bad.Tie as tie
 
@@ -10,14 +11,15 @@ returns c = c .bad-inbound .ensures ∙ ap (λ (fs : List Field). place (firstBa
 
 returns-2 : tie.Need-returns-2
 unfolding firstBadPlace badPlace
-returns-2 c = rw (c .before .match .keys1, c .bad-stamp .ensures) (simp or-none)
+returns-2 c = rw (c .before .match .keys1) (one (stampAt 1) (c .before .before .before .before .args .s .now) (c .bad-stamp .ensures))
 
 returns-3 : tie.Need-returns-3
 unfolding firstBadPlace badPlace
 returns-3 c =
-    rw (c .before .before .before .before .before .match .keys2, c .earlier2 .ensures, c .before .earlier .ensures)
-    (rw (c .before .before .bad-token2 .ensures, c .before .before .before .bad-token .ensures)
-    (rw (c .before .before .before .before .bad-stamp2 .ensures) (simp (place-earlier, or-none))))
+    let stamp = c .before .before .before .before in
+    rw (stamp .before .match .keys2)
+    (three (stampAt 1) (tokenAt 9) (tokenAt 65) (stamp .before .before .before .before .args .s .now) (omega arith) (omega arith) (c .earlier2 .ensures) (c .before .earlier .ensures)
+    (stamp .bad-stamp2 .ensures) (c .before .before .before .bad-token .ensures) (c .before .before .bad-token2 .ensures))
 
 returns-4 : tie.Need-returns-4
 returns-4 c = search needs

@@ -1,0 +1,39 @@
+-- The place that an answer tells: with 3 the smallest offset of a bad byte, and 0 with every other answer; once over all fields. Assumes nothing.
+use Rattle.octets.proofs.Proving.{List, Option, _<_, _≡_, ap, arith, none, refl, some, subst, true, ℕ}
+use Rattle.answers.specs.Answer.{answerPlace}
+use Rattle.answers.specs.declared.Answer.{Answer}
+use Rattle.answers.specs.declared.Answer.the-variants.{NotSound, WrongRing, Malformed, BadField, TooEarly, Ignored, NotLive, WrongMoment, WrongShares, Full, Blocked, NotHeld, NoRoom, Done}
+use Rattle.wire.specs.Layout.{Field, firstBadPlace, unbroken}
+use Rattle.wire.specs.Legal.{FirstBad, _exactlyWhen_, PlaceWith3}
+use Rattle.wire.specs.Messages.{badAt_⨾_}
+use Rattle.wire.proofs.BadPlaces.{all-obey, first-bad, one-first, none-first, first-from}
+
+module _ (fs : List Field) (size : ℕ) (u : unbroken 1 size fs ≡ true) (s : List ℕ) (next : Answer) (other : (at : ℕ) → next ≡ BadField at → ⊥) where
+  pub told-exactly : (at : ℕ) → ((badAt firstBadPlace fs s ⨾ next) ≡ BadField at) exactlyWhen FirstBad fs s at
+  told-exactly at = go (firstBadPlace fs s) refl
+    where
+      go : (o : Option ℕ) → firstBadPlace fs s ≡ o → ((badAt o ⨾ next) ≡ BadField at) exactlyWhen FirstBad fs s at
+      go none p = (λ e. absurd (other at e), λ b. absurd (none-first fs s (all-obey fs s p) b))
+      go (some i) p =
+          let b : FirstBad fs s i = first-bad fs 1 size s i u p in
+          (λ e. subst (FirstBad fs s) (ap answerPlace e) b, λ b′. ap BadField (one-first fs s b b′))
+
+  pub told-from-1 : (at : ℕ) → (badAt firstBadPlace fs s ⨾ next) ≡ BadField at → 0 < at
+  told-from-1 at e = first-from fs s 1 size u (told-exactly at .0 e)
+
+-- an answer whose 3 never tells 0
+pub place-with-3 : (a : Answer) → ((at : ℕ) → a ≡ BadField at → 0 < at) → PlaceWith3 a
+place-with-3 NotSound h = (λ e z. omega (arith, z), λ z. refl)
+place-with-3 WrongRing h = (λ e z. omega (arith, z), λ z. refl)
+place-with-3 Malformed h = (λ e z. omega (arith, z), λ z. refl)
+place-with-3 (BadField at) h = (λ e z. omega (arith, e, h at refl), λ z. absurd (z refl))
+place-with-3 TooEarly h = (λ e z. omega (arith, z), λ z. refl)
+place-with-3 Ignored h = (λ e z. omega (arith, z), λ z. refl)
+place-with-3 NotLive h = (λ e z. omega (arith, z), λ z. refl)
+place-with-3 WrongMoment h = (λ e z. omega (arith, z), λ z. refl)
+place-with-3 WrongShares h = (λ e z. omega (arith, z), λ z. refl)
+place-with-3 Full h = (λ e z. omega (arith, z), λ z. refl)
+place-with-3 Blocked h = (λ e z. omega (arith, z), λ z. refl)
+place-with-3 NotHeld h = (λ e z. omega (arith, z), λ z. refl)
+place-with-3 NoRoom h = (λ e z. omega (arith, z), λ z. refl)
+place-with-3 Done h = (λ e z. omega (arith, z), λ z. refl)
