@@ -121,6 +121,15 @@ impl Answer {
     #[inline]
     pub(crate) fn at(number: u8, place: usize) -> Answer {
         match (number, place) {
+            (0, 0) => Answer::Done,
+            _ => Answer::refused_at(number, place),
+        }
+    }
+
+    /// The other ones, apart, so that a caller that goes on where all is done has little to ask.
+    #[cold]
+    fn refused_at(number: u8, place: usize) -> Answer {
+        match (number, place) {
             (3, place) => Answer::BadField { place },
             (number, 0) => Answer::of(number),
             _ => no_answer(number, place),
