@@ -1,4 +1,4 @@
-// What every call of the host answers, and the one place where an answer becomes the paper's number.
+// What every call of the host answers, and the one file in which an answer becomes the paper's number and place.
 ghost use mathlib.Core.Path.{_≡_};
 ghost use Rattle.octets.specs.Choice.{_⇒_⨾_};
 ghost use Rattle.answers.specs.Answer.{answerNumber, answerPlace, isDone};

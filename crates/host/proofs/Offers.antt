@@ -1,5 +1,5 @@
 -- What an offer comes to, and so what the code that stands there leaves. Assumes nothing.
-use Rattle.octets.proofs.Proving.{Bool, List, Option, _<_, _∙_, _≡_, _≤_, ap, arith, false, le-ltb, length, length-append, lt-ltb, none, not, refl, some, subst, sym, take, take-at, true, ℕ}
+use Rattle.octets.proofs.Proving.{Bool, List, Option, _<_, _∙_, _≡_, _≤_, ap, arith, false, le-ltb, length, length-append, lt-ltb, none, not, refl, some, sym, take, take-at, true, ℕ}
 use Rattle.octets.specs.Choice.{_⇒_⨾_}
 use Rattle.answers.specs.Answer.{isDone}
 use Rattle.wire.specs.Messages.{badAt_⨾_, inEighty}
@@ -10,7 +10,7 @@ use Rattle.rules.specs.Plan.{refused}
 use Rattle.notices.specs.Notices.{message, sent}
 use Rattle.notices.specs.declared.Sent.{Sent}
 use Rattle.host.specs.Types.{Answer, Done, Malformed, TooEarly, Blocked, Decision, Plan, Marks}
-use Rattle.host.specs.Step.{World, Outcome, namedPlace, decide, withinLimits, comesTo, committed, worldAfter, unchanged, noRoom, carriedOut, settle, offer, Leaves}
+use Rattle.host.specs.Step.{World, namedPlace, decide, withinLimits, comesTo, committed, worldAfter, unchanged, noRoom, carriedOut, settle, offer, Leaves}
 
 pub stays : (w : World) (a : Answer) → Leaves (unchanged w a) a (w .marks) (w .table) (w .ring)
 stays w a = record { answered = refl; marked = refl; tabled = refl; ringed = refl }

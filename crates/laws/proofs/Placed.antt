@@ -1,16 +1,14 @@
 -- What a step's place says of the entry, from what judging it says. Assumes nothing.
-use Rattle.octets.proofs.Proving.{Bool, List, _∙_, _≡_, arith, guard, length, not, not-false, true, ℕ}
+use Rattle.octets.proofs.Proving.{List, _≡_, arith, guard, length, not, not-false, true, ℕ}
 use Rattle.answers.specs.Answer.{isDone}
-use Rattle.wire.specs.Legal.{FirstBad, _exactlyWhen_}
 use Rattle.wire.proofs.Told.{place-with-3}
 use Rattle.outbox.specs.Outbox.{ringGood}
 use Rattle.table.specs.Table.{sound}
 use Rattle.table.proofs.Soundness.{of-sound}
-use Rattle.tape.specs.Kinds.{kindOf, layoutOf}
 use Rattle.tape.specs.Entries.{stampOf, entryAnswer}
 use Rattle.tape.proofs.Judged.{entry-judged, bad-from-1}
 use Rattle.host.specs.Step.{World, Outcome, namedPlace, comesTo, noRoom, carriedOut, settle, offer, step}
-use Rattle.laws.specs.Places.{Looked, TellsPlace}
+use Rattle.laws.specs.Places.{TellsPlace}
 use Rattle.laws.proofs.Types.{BadField, Decision}
 use Rattle.laws.proofs.Comes.{comes-bad, bad-comes}
 

@@ -40,6 +40,7 @@ pub(crate) fn show_entry(s: &[u8]) -> bool {
     if at == 0 {
         return shown;
     }
+    // A told place lies in the entry; `point_at` asks for it, so it is asked for once more.
     if s.len() <= at {
         return shown;
     }

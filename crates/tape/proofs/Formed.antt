@@ -1,7 +1,5 @@
 -- What judging knows of an entry whose kind is known: how long it is, and where its first bad place is looked for. Assumes nothing.
-use Rattle.octets.proofs.Proving.{Bool, List, Option, [], _&&_, _∙_, _∷_, _≡_, _≤_, ap, ap₂, arith, eqb, eqb-false, eqb-true, false, false≢true, length, none, not, not-true, refl, some, sym, true, ℕ}
-use Rattle.octets.specs.Bytes.{part}
-use Rattle.octets.specs.Choice.{firstOf_, _⇒_⨾_}
+use Rattle.octets.proofs.Proving.{List, _∙_, _∷_, _≡_, _≤_, ap, arith, eqb, eqb-false, eqb-true, false, length, not, not-true, refl, sym, true, ℕ}
 use Rattle.octets.proofs.Below.{both}
 use Rattle.answers.specs.declared.Answer.the-variants.{Malformed, Done}
 use Rattle.wire.specs.Layout.{stampAt, place, badPlace, firstBadPlace, unbroken}

@@ -1,7 +1,7 @@
 -- What looking at fields one by one finds, as code hands it about: 0, or the first bad place, where the fields lie behind 0. Assumes nothing.
 use Rattle.octets.proofs.Proving.{List, Option, [], _<_, _∙_, _∷_, _≡_, ap₂, arith, ne-eqb, none, refl, some, true, ℕ}
 use Rattle.octets.specs.Bytes.{part}
-use Rattle.wire.specs.Layout.{Rule, Field, place, earlierOf, badPlace, orElse, firstBadPlace, unbroken}
+use Rattle.wire.specs.Layout.{Field, place, earlierOf, badPlace, orElse, firstBadPlace, unbroken}
 use Rattle.wire.proofs.BadPlaces.{bad-from, first-bad, first-from}
 
 -- what one field has

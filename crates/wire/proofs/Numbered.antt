@@ -1,11 +1,10 @@
 -- The sixteen messages by number: the constant tables say what the layouts say, and so do the places that the judge asks about.
 -- Assumes nothing.
-use Rattle.octets.proofs.Proving.{Bool, List, List·getD-eq-default, Option, T, [], _&&_, _+_, _<_, _||_, _∙_, _∷_, _≡_, _≤_, add-one, ap, ap₂, arith, decLt, drop, drop-cons, drop-of-length-le, eqb, eqb-true, false, getD, getD-take, le-ltb, le-of-suc-le-suc, leb, leb-true, length-take, lit<, lit≤, lt-of-le-ne, ltb, ltb-true, map, none, not-suc-le-zero, refl, some, subst, suc, sym, take, true, zero, ℕ, ℕ-discrete}
+use Rattle.octets.proofs.Proving.{Bool, List, List·getD-eq-default, Option, T, [], _&&_, _+_, _<_, _||_, _∙_, _∷_, _≡_, _≤_, add-one, ap, ap₂, arith, decLt, drop, drop-cons, drop-of-length-le, eqb, eqb-true, false, getD, getD-take, le-ltb, le-of-suc-le-suc, leb, leb-true, length-take, lit<, lit≤, lt-of-le-ne, ltb, ltb-true, map, not-suc-le-zero, refl, some, subst, suc, sym, take, true, zero, ℕ, ℕ-discrete}
 use Prim.Native.Char.{code}
 use Rattle.octets.proofs.Below.{all-at, both}
-use Rattle.octets.specs.Bytes.{part}
 use Rattle.octets.specs.Choice.{pick, allBelow}
-use Rattle.wire.specs.Limits.{stampEnd, longestMessage}
+use Rattle.wire.specs.Limits.{longestMessage}
 use Rattle.wire.specs.Layout.{Layout, Field, shifted, stampAt, tokenAt, place, badPlace, firstBadPlace, layoutFor, unbroken, wellLaid, gapsAreZero}
 use Rattle.wire.proofs.FirstNot.{no-place}
 use Rattle.wire.proofs.Found.{not-at-0}

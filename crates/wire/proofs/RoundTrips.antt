@@ -1,6 +1,6 @@
 -- The round trips, once over every layout: legal bytes that are read and written back, and values that are written and read back.
 -- Assumes nothing.
-use Rattle.octets.proofs.Proving.{List, Option, T, _++_, _∙_, _≡_, _≤_, ap, drop, eq-eqb, getD, le-ltb, length, length-replicate, lit<, ltb, none, refl, some, sym, take, take-at, true, ℕ}
+use Rattle.octets.proofs.Proving.{List, Option, T, _++_, _∙_, _≡_, _≤_, ap, drop, eq-eqb, getD, le-ltb, length, length-replicate, lit<, ltb, none, refl, some, take, take-at, true, ℕ}
 use Rattle.octets.specs.Choice.{_⇒_⨾_}
 use Rattle.octets.specs.Bytes.{zeros}
 use Rattle.answers.specs.Answer.{isDone, ifDone}

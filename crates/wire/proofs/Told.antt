@@ -6,7 +6,7 @@ use Rattle.answers.specs.declared.Answer.the-variants.{NotSound, WrongRing, Mal
 use Rattle.wire.specs.Layout.{Field, firstBadPlace, unbroken}
 use Rattle.wire.specs.Legal.{FirstBad, _exactlyWhen_, PlaceWith3}
 use Rattle.wire.specs.Messages.{badAt_⨾_}
-use Rattle.wire.proofs.BadPlaces.{all-obey, first-bad, one-first, none-first, first-from}
+use Rattle.wire.proofs.BadPlaces.{all-obey, first-bad, one-first, none-first}
 
 module _ (fs : List Field) (size : ℕ) (u : unbroken 1 size fs ≡ true) (s : List ℕ) (next : Answer) (other : (at : ℕ) → next ≡ BadField at → ⊥) where
   pub told-exactly : (at : ℕ) → ((badAt firstBadPlace fs s ⨾ next) ≡ BadField at) exactlyWhen FirstBad fs s at
@@ -17,9 +17,6 @@ module _ (fs : List Field) (size : ℕ) (u : unbroken 1 size fs ≡ true) (s : L
       go (some i) p =
           let b : FirstBad fs s i = first-bad fs 1 size s i u p in
           (λ e. subst (FirstBad fs s) (ap answerPlace e) b, λ b′. ap BadField (one-first fs s b b′))
-
-  pub told-from-1 : (at : ℕ) → (badAt firstBadPlace fs s ⨾ next) ≡ BadField at → 0 < at
-  told-from-1 at e = first-from fs s 1 size u (told-exactly at .0 e)
 
 -- an answer whose 3 never tells 0
 pub place-with-3 : (a : Answer) → ((at : ℕ) → a ≡ BadField at → 0 < at) → PlaceWith3 a

@@ -1,10 +1,10 @@
 -- A stamp, and what is judged behind it. Assumes nothing.
-use Rattle.octets.proofs.Proving.{_∙_, _≡_, ap, arith, length, subst, sym, unasked}
+use Rattle.octets.proofs.Proving.{_∙_, ap, arith, sym, unasked}
 use Rattle.wire.specs.Layout.{stampAt, place}
 use Rattle.wire.proofs.Found.{behind}
 use Rattle.tape.specs.Kinds.{kindOf}
 use Rattle.tape.specs.Entries.{badPlaceOf}
-use Rattle.tape.specs.Behind.{behindOf, judgedFields, Within}
+use Rattle.tape.specs.Behind.{behindOf, judgedFields}
 use Rattle.tape.proofs.Formed.{formed, stamp-fits, within, judged}
 use Rattle.tape.proofs.judging.first_bad.Statement.{statement}
 use Rattle.tape.proofs.judging.first_bad.Tie as tie

@@ -1,5 +1,5 @@
 -- 2 where it is not well formed; else what its first bad place answers. Assumes nothing.
-use Rattle.octets.proofs.Proving.{_∙_, _≡_, ap, needs, sym, unasked, ℕ}
+use Rattle.octets.proofs.Proving.{_∙_, ap, needs, sym, unasked, ℕ}
 use Rattle.answers.specs.declared.Answer.the-variants.{Done}
 use Rattle.wire.specs.Messages.{placeAnswer}
 use Rattle.tape.proofs.Formed.{answer-judged, answer-malformed}
