@@ -12,11 +12,13 @@
 #define ROOMY 4096
 #define SLOW 12
 
-/* A host: what is lent to it with each call. */
+/* A host with its memory: 800 records, a ring, and one stock, which trades. */
 struct desk {
     uint8_t table[PQ_TABLE_SIZE(PQ_MOST_RECORDS)];
     uint8_t ring[ROOMY];
-    size_t ring_len, at, held, place;
+    uint8_t stocks[PQ_STOCKS_SIZE(1)];
+    struct pq_host host;
+    size_t place;
 };
 
 static struct desk small, roomy;
@@ -25,22 +27,30 @@ static int differs;
 
 static void open_desk(struct desk *desk, size_t ring_len)
 {
-    desk->ring_len = ring_len;
-    pq_fresh(desk->table, sizeof desk->table, PQ_HIGHEST_THRESHOLD, (const uint8_t *)"ABCD", PQ_FIRM_SIZE);
+    memcpy(desk->stocks, "ABC     T", sizeof desk->stocks);
+    desk->host.table = desk->table;
+    desk->host.table_len = sizeof desk->table;
+    desk->host.ring = desk->ring;
+    desk->host.ring_len = ring_len;
+    desk->host.stocks = desk->stocks;
+    desk->host.stocks_len = sizeof desk->stocks;
+    pq_host_fresh(&desk->host, PQ_HIGHEST_THRESHOLD, (const uint8_t *)"ABCD", PQ_FIRM_SIZE);
 }
 
 static uint8_t offer(struct desk *desk, const uint8_t *entry, size_t length)
 {
-    return pq_step(desk->table, sizeof desk->table, desk->ring, desk->ring_len, &desk->at, &desk->held, entry, length, &desk->place);
+    return pq_host_step(&desk->host, entry, length, &desk->place);
 }
 
 /* The reader takes at most k bytes of the unbroken run into `out`, and gives them up. */
 static size_t take(struct desk *desk, size_t k, uint8_t *out)
 {
-    size_t run = pq_read(desk->ring, desk->ring_len, desk->at, desk->held);
-    size_t taken = run < k ? run : k;
-    memcpy(out, desk->ring + desk->at, taken);
-    pq_release(desk->ring_len, &desk->at, &desk->held, taken);
+    const uint8_t *run;
+    size_t length = pq_host_read(&desk->host, &run);
+    size_t taken = length < k ? length : k;
+    if (taken > 0)
+        memcpy(out, run, taken);
+    pq_host_release(&desk->host, taken);
     return taken;
 }
 
@@ -72,12 +82,12 @@ static uint8_t offer_until_taken(const uint8_t *entry, size_t length)
 {
     uint8_t answer;
     while ((answer = offer(&small, entry, length)) == PQ_BLOCKED) {
-        size_t held = small.held;
+        size_t held = small.host.held;
         read_piece();
         blocked++;
-        fprintf(stderr, "%c answered 9, %zu of %zu held; %zu bytes read and released\n", entry[0], held, small.ring_len, held - small.held);
+        fprintf(stderr, "%c answered 9, %zu of %zu held; %zu bytes read and released\n", entry[0], held, small.host.ring_len, held - small.host.held);
     }
-    fprintf(stderr, "%c answered %d, %zu of %zu held\n", entry[0], answer, small.held, small.ring_len);
+    fprintf(stderr, "%c answered %d, %zu of %zu held\n", entry[0], answer, small.host.held, small.host.ring_len);
     if (answer == PQ_BAD_FIELD)
         fprintf(stderr, "its first bad byte is at %zu, of %zu\n", small.place, length);
     return answer;
@@ -93,9 +103,9 @@ int main(void)
         answer = offer_until_taken(entry, length);
         differs |= answer != roomys || small.place != roomy.place;
     }
-    while (small.held > 0)
+    while (small.host.held > 0)
         read_piece();
-    fprintf(stderr, "%zu bytes sent, %zu offers blocked; through a ring of %zu %s\n", sent, blocked, roomy.ring_len,
-            differs || roomy.held > 0 ? "it is something else" : "the stream is the same");
-    return differs || roomy.held > 0;
+    fprintf(stderr, "%zu bytes sent, %zu offers blocked; through a ring of %zu %s\n", sent, blocked, roomy.host.ring_len,
+            differs || roomy.host.held > 0 ? "it is something else" : "the stream is the same");
+    return differs || roomy.host.held > 0;
 }

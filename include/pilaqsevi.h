@@ -6,8 +6,11 @@
  * it is given. Where a length is 0 its pointer is not followed and may be NULL; `at` and `held` are pointers to one number each and may not.
  * Nothing else is asked: every other value is judged and answered.
  *
- * Threads: there is no state but what is lent, so calls on different tables and rings may run at once; calls that share a table, a ring or its
- * marks may not, unless none of them writes it. There is no lock inside.
+ * A driver had best keep a struct pq_host, which holds all that is lent, and use the four functions over it (at the end of this file): what a
+ * step is lent may grow, and such a driver is not touched by it.
+ *
+ * Threads: there is no state but what is lent, so calls on different tables, rings and lists may run at once; calls that share a table, a ring
+ * with its marks or a list may not, unless none of them writes it. There is no lock inside.
  *
  * Linking: the archive calls memcpy and memset of the C library and nothing else.
  */
@@ -31,7 +34,7 @@ enum pq_answer {
     PQ_MALFORMED = 2,    /* kind or type unknown, or length not the kind's */
     PQ_BAD_FIELD = 3,    /* a stamp, token, letter, price or setting is bad */
     PQ_TOO_EARLY = 4,    /* stamp below the last stamp */
-    PQ_NOT_LIVE = 5,     /* token not live */
+    PQ_NOT_LIVE = 5,     /* token not live, or symbol not listed */
     PQ_WRONG_SHARES = 6, /* shares 0 or above open */
     PQ_WRONG_MOMENT = 7,
     PQ_FULL = 8,         /* no record is free, or no reference is left */
@@ -39,7 +42,8 @@ enum pq_answer {
     PQ_NOT_SOUND = 10,   /* table not sound */
     PQ_WRONG_RING = 11,  /* ring length or marks wrong */
     PQ_NOT_HELD = 12,    /* release above the held count */
-    PQ_NO_ROOM = 13      /* buffer too short for the echo's message */
+    PQ_NO_ROOM = 13,     /* buffer too short for the echo's message */
+    PQ_WRONG_STOCKS = 14 /* list of stocks of a wrong length, not ascending, or with another state */
 };
 
 /* Sizes in bytes, and limits. */
@@ -51,13 +55,17 @@ enum pq_answer {
 #define PQ_MOST_FIRMS 8
 #define PQ_LOWEST_THRESHOLD 1
 #define PQ_HIGHEST_THRESHOLD 1000000
+#define PQ_SYMBOL_SIZE 8
+#define PQ_STOCK_SIZE 9       /* a symbol and its state */
+#define PQ_MOST_STOCKS 2000
 #define PQ_SHORTEST_RING 80
 #define PQ_LONGEST_RING 65536
 #define PQ_LONGEST_ENTRY 56   /* kind and stamp included */
 #define PQ_LONGEST_MESSAGE 80 /* as long as the shortest ring, so a ring that holds nothing has room for any message */
 
-/* The bytes of a table with so many records. */
+/* The bytes of a table with so many records, and of a list with so many stocks. */
 #define PQ_TABLE_SIZE(records) (PQ_HEADER_SIZE + PQ_RECORD_SIZE * (records))
+#define PQ_STOCKS_SIZE(stocks) (PQ_STOCK_SIZE * (stocks))
 
 /*
  * Makes the bytes at `table` a fresh table: day not begun, no record used, next reference 1, these settings, zeros elsewhere.
@@ -68,15 +76,19 @@ enum pq_answer {
 uint8_t pq_fresh(uint8_t *table, size_t table_len, uint32_t threshold, const uint8_t *firms, size_t firms_len);
 
 /*
- * Takes one entry: judges table, ring, marks and entry, decides, and where the answer is PQ_DONE writes the table and puts the entry's message,
- * if it has one, right behind the held bytes of the ring, which may wrap at its end; *held grows by the message's length and *at stays.
+ * Takes one entry: judges table, ring, marks, list and entry, decides, and where the answer is PQ_DONE writes the table and puts the entry's
+ * message, if it has one, right behind the held bytes of the ring, which may wrap at its end; *held grows by the message's length and *at stays.
  * The ring has 80 to 65,536 bytes, *at is below its length and *held at most its length. No other byte of table and ring changes.
- * Answers PQ_NOT_SOUND, PQ_WRONG_RING, PQ_MALFORMED, PQ_BAD_FIELD, PQ_TOO_EARLY, PQ_IGNORED, PQ_NOT_LIVE, PQ_WRONG_MOMENT, PQ_WRONG_SHARES,
- * PQ_FULL, PQ_BLOCKED or PQ_DONE. An entry that was answered PQ_BLOCKED may be offered again once bytes were released, and comes to the same.
+ * The list has 0 to 2,000 places of nine bytes: a symbol of eight and its state, T (trading) or H (halted), the symbols strictly ascending as
+ * unsigned bytes. stocks_len counts bytes. Symbols are not judged otherwise. An entry h that is done sets one byte, its symbol's state; no other
+ * entry changes the list.
+ * Answers PQ_NOT_SOUND, PQ_WRONG_RING, PQ_WRONG_STOCKS, PQ_MALFORMED, PQ_BAD_FIELD, PQ_TOO_EARLY, PQ_IGNORED, PQ_NOT_LIVE, PQ_WRONG_MOMENT,
+ * PQ_WRONG_SHARES, PQ_FULL, PQ_BLOCKED or PQ_DONE. An entry that was answered PQ_BLOCKED may be offered again once bytes were released, and
+ * comes to the same.
  * *place is written by every call: with PQ_BAD_FIELD it is the offset of the entry's first bad byte, its kind counted as 0, that is the first byte
  * of the bad field or, in a token, the first character that no token has; with every other answer it is 0, where no field lies.
  */
-uint8_t pq_step(uint8_t *table, size_t table_len, uint8_t *ring, size_t ring_len, size_t *at, size_t *held, const uint8_t *entry, size_t entry_len, size_t *place);
+uint8_t pq_step(uint8_t *table, size_t table_len, uint8_t *ring, size_t ring_len, size_t *at, size_t *held, uint8_t *stocks, size_t stocks_len, const uint8_t *entry, size_t entry_len, size_t *place);
 
 /*
  * The length of the longest unbroken run of held bytes, which starts at ring + at. 0 where nothing is held, and where the ring's length or
@@ -110,6 +122,47 @@ size_t pq_entry_length(uint8_t kind);
  * twelve; 0 where there is no such type. It cuts what is read from the ring into messages.
  */
 size_t pq_message_length(uint8_t inbound, uint8_t type);
+
+/*
+ * A host: all that a step is lent, and the ring's marks. Begin with zeros and set the fields by their names, so that what is not set is nothing:
+ * no stock is listed, and nothing is held. The memory stays the caller's and has to last as long as the host is used.
+ */
+struct pq_host {
+    uint8_t *table;
+    size_t table_len;
+    uint8_t *ring;
+    size_t ring_len;
+    uint8_t *stocks;
+    size_t stocks_len;
+    size_t at, held;
+};
+
+/* pq_fresh of the host's table. Ring, marks and list stay as they are, so that nothing which is held is forgotten. */
+static inline uint8_t pq_host_fresh(struct pq_host *host, uint32_t threshold, const uint8_t *firms, size_t firms_len)
+{
+    return pq_fresh(host->table, host->table_len, threshold, firms, firms_len);
+}
+
+/* pq_step of one entry. */
+static inline uint8_t pq_host_step(struct pq_host *host, const uint8_t *entry, size_t entry_len, size_t *place)
+{
+    return pq_step(host->table, host->table_len, host->ring, host->ring_len, &host->at, &host->held, host->stocks, host->stocks_len, entry,
+                   entry_len, place);
+}
+
+/* pq_read: the length of the longest unbroken run of held bytes, and in *run where it starts; NULL where there is none. */
+static inline size_t pq_host_read(const struct pq_host *host, const uint8_t **run)
+{
+    size_t length = pq_read(host->ring, host->ring_len, host->at, host->held);
+    *run = length > 0 ? host->ring + host->at : NULL;
+    return length;
+}
+
+/* pq_release of the oldest k held bytes. */
+static inline uint8_t pq_host_release(struct pq_host *host, size_t k)
+{
+    return pq_release(host->ring_len, &host->at, &host->held, k);
+}
 
 #ifdef __cplusplus
 }

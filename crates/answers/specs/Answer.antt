@@ -4,11 +4,12 @@ use mathlib.Core.Bool.{Bool}
 use lib.Dec.{eqb}
 use Rattle.octets.specs.Choice.{pick}
 pub use Rattle.answers.specs.declared.Answer.{Answer}
-pub use Rattle.answers.specs.declared.Answer.the-variants.{NotSound, WrongRing, Malformed, BadField, TooEarly, Ignored, NotLive, WrongMoment, WrongShares, Full, Blocked, NotHeld, NoRoom, Done}
+pub use Rattle.answers.specs.declared.Answer.the-variants.{NotSound, WrongRing, WrongStocks, Malformed, BadField, TooEarly, Ignored, NotLive, WrongMoment, WrongShares, Full, Blocked, NotHeld, NoRoom, Done}
 
 abbrev pub answerNumber : Answer → ℕ
 answerNumber NotSound = 10
 answerNumber WrongRing = 11
+answerNumber WrongStocks = 14  -- right after 11 (Ask 2)
 answerNumber Malformed = 2
 answerNumber (BadField at) = 3
 answerNumber TooEarly = 4
@@ -26,6 +27,7 @@ answerNumber Done = 0
 abbrev pub answerPlace : Answer → ℕ
 answerPlace NotSound = 0
 answerPlace WrongRing = 0
+answerPlace WrongStocks = 0
 answerPlace Malformed = 0
 answerPlace (BadField at) = at
 answerPlace TooEarly = 0

@@ -8,6 +8,7 @@ ghost use Rattle.answers.specs.Answer.{answerNumber, answerPlace, isDone
 pub enum Answer {
     NotSound,
     WrongRing,
+    WrongStocks,
     Malformed,
     BadField(usize),
     TooEarly,
@@ -29,6 +30,7 @@ pub fn number(answer: Answer) -> u8
     match answer {
         Answer::NotSound => 10,
         Answer::WrongRing => 11,
+        Answer::WrongStocks => 14,
         Answer::Malformed => 2,
         Answer::BadField(_) => 3,
         Answer::TooEarly => 4,
@@ -51,6 +53,7 @@ pub fn place(answer: Answer) -> usize
     match answer {
         Answer::NotSound => 0,
         Answer::WrongRing => 0,
+        Answer::WrongStocks => 0,
         Answer::Malformed => 0,
         Answer::BadField(at) => at,
         Answer::TooEarly => 0,

@@ -12,7 +12,7 @@ const SHAPE: usize = 56;
 // Where an entry has what a script sets; NOWHERE for what a kind does not have. The number of a p is its price.
 fn name_at(kind: u8) -> usize {
     match kind {
-        b's' | b'E' => NOWHERE,
+        b's' | b'E' | b'h' | b'y' => NOWHERE,
         _ => 9,
     }
 }
@@ -61,7 +61,7 @@ fn firm_at(kind: u8) -> usize {
 
 // Which of the shapes below is the kind's.
 fn place_of(kind: u8) -> usize
-    ensures { λ r. ⌜ r < 13 ⌝ }
+    ensures { λ r. ⌜ r < 15 ⌝ }
 {
     match kind {
         b'O' => 0,
@@ -76,7 +76,9 @@ fn place_of(kind: u8) -> usize
         b'f' => 9,
         b's' => 10,
         b'E' => 11,
-        _ => 12,
+        b'h' => 12,
+        b'y' => 13,
+        _ => 14,
     }
 }
 
@@ -84,7 +86,8 @@ fn cross_at(kind: u8) -> usize {
     if kind == b'O' { 55 } else { NOWHERE }
 }
 
-// The letters of each kind, with dots where the numbers go: buy ABC for a blank firm. E is the end of the day, Z no kind at all.
+// The letters of each kind, with dots where the numbers go: buy ABC for a blank firm. E is the end of the day, h halts ABC and y has it trade
+// again, Z is no kind at all.
 fn shape(kind: u8) -> [u8; 56] {
     let shapes = b"\
 O........A             B....ABC     ........    YAN....N\
@@ -99,6 +102,8 @@ l........A                                              \
 f........A                                              \
 s........S                                              \
 s........E                                              \
+h........ABC     H                                      \
+h........ABC     T                                      \
 Z........A                                              ";
     let mut bytes = [0u8; 56];
     let at = SHAPE * place_of(kind);
@@ -165,6 +170,7 @@ pub(crate) fn size(run: Run, kind: u8) -> usize {
 fn whole_size(kind: u8) -> usize {
     match kind {
         b'E' => 10,
+        b'y' => 18,
         b'Z' => 23,
         _ => entry_length(kind),
     }

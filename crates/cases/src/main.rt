@@ -1,9 +1,10 @@
 // Plays the paper's worked numbers, the errors that students really make, the order of answers, the places that they tell, the order of reject
-// letters, and other settings through the host, and prints a line for each: what should happen and what did. The last line counts those that
+// letters, other settings, and halts through the host, and prints a line for each: what should happen and what did. The last line counts those that
 // agree.
 mod answers_order;
 mod entries;
 mod errors;
+mod halts;
 mod house;
 mod houses;
 mod letters;
@@ -17,6 +18,7 @@ mod worked;
 
 use crate::answers_order::answers;
 use crate::errors::errors;
+use crate::halts::halts;
 use crate::houses::houses;
 use crate::letters::letters;
 use crate::places::places;
@@ -30,7 +32,7 @@ fn main() {
         b"an order: token, state, liable-executed-self-matched=open, time in force\n",
     );
     let none = Tally { tried: 0, agree: 0 };
-    let tally = houses(letters(places(answers(errors(worked(none))))));
+    let tally = halts(houses(letters(places(answers(errors(worked(none)))))));
     io::print_decimal(STDOUT_FILENO, tally.agree);
     io::write_all(STDOUT_FILENO, b" of ");
     io::print_decimal(STDOUT_FILENO, tally.tried);

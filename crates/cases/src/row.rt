@@ -1,6 +1,7 @@
 // A row of a list of cases: what it shows, a script, and what should come of it. The first two columns are padded with spaces.
 use crate::house::open;
 use crate::run::LONGEST;
+use crate::script::STOCKS;
 use crate::script::TABLE_SIZE;
 use crate::script::play;
 use crate::text::part;
@@ -23,15 +24,16 @@ fn say(words: &[u8]) {
     io::write_all(STDOUT_FILENO, words);
 }
 
-// Plays the script on a fresh table with the paper's settings and an empty ring, and answers how many bytes of `out` say what came of it.
+// Plays the script on a fresh table with the paper's settings, an empty ring and the stock ABC, which trades, and answers how many bytes of `out` say what came of it.
 fn done(script: &[u8], out: &mut [u8]) -> usize {
     let mut table = [0u8; TABLE_SIZE];
     let mut ring = [0u8; LONGEST];
+    let mut stocks = STOCKS;
     open(&mut table, 1_000_000, 1);
-    let run = play(&mut table, &mut ring, script);
+    let run = play(&mut table, &mut ring, &mut stocks, script);
     let r = run.ring;
     if r <= LONGEST {
-        return told(&table, &ring[0..r], run, out);
+        return told(&table, &ring[0..r], &stocks, run, out);
     }
     0
 }

@@ -1,7 +1,7 @@
 // What a script has set so far, and what came of the last entry.
 use outbox::marks::Marks;
 
-// The answer and its place, how many bytes were held before, whether a byte of table or ring or a mark has changed, and whether the first record's 80 bytes
+// The answer and its place, how many bytes were held before, whether a byte of table, ring or list or a mark has changed, and whether the first record's 80 bytes
 // are what they were.
 pub struct Last {
     pub answer: u8,

@@ -11,9 +11,10 @@
 // R         the ring has so many bytes
 // F V       a fresh table with so many firms; one with this threshold
 // T N       a byte of the table is damaged; the next reference is the one past the last
+// L J       the list has another stock in ABC's place; its state is damaged
 // k g       what is held stays held; what is held is read and released
 //
-// Every other letter is an entry of that kind with so many shares (E: the day ends). Unless k was said the ring is emptied before it.
+// Every other letter is an entry of that kind with so many shares (E: the day ends; h: ABC is halted; y: it trades again). Unless k was said the ring is emptied before it.
 use crate::entries::entry;
 use crate::entries::size;
 use crate::house::open;
@@ -33,6 +34,9 @@ use host::step::step;
 use outbox::marks::Marks;
 use outbox::read::read;
 use outbox::release::release;
+
+// One stock, which trades.
+pub const STOCKS: [u8; 9] = *b"ABC     T";
 
 // Two records, so that A and B fill the table.
 pub const TABLE_SIZE: usize = 224;
@@ -58,16 +62,17 @@ fn emptied(ring: &[u8], run: Run) -> Run {
     marked(run, given_up(ring, given_up(ring, marks)))
 }
 
-// Table and ring one after the other, to be held against what they are later.
-fn copied(table: &[u8], ring: &[u8]) -> [u8; 352] {
-    let mut bytes = [0u8; 352];
+// Table, ring and list one after the other, to be held against what they are later.
+fn copied(table: &[u8], ring: &[u8], stocks: &[u8]) -> [u8; 361] {
+    let mut bytes = [0u8; 361];
     let at = put(&mut bytes, 0, table);
-    put(&mut bytes, at, ring);
+    let end = put(&mut bytes, at, ring);
+    put(&mut bytes, end, stocks);
     bytes
 }
 
-// What came of an entry, from table and ring before and after it.
-fn last(answer: Answer, was: Marks, marks: Marks, before: [u8; 352], after: [u8; 352]) -> Last {
+// What came of an entry, from table, ring and list before and after it.
+fn last(answer: Answer, was: Marks, marks: Marks, before: [u8; 361], after: [u8; 361]) -> Last {
     let same = check::same(&before, &after) & (marks.at == was.at) & (marks.held == was.held);
     Last {
         answer: number(answer),
@@ -78,28 +83,41 @@ fn last(answer: Answer, was: Marks, marks: Marks, before: [u8; 352], after: [u8;
     }
 }
 
-fn offered(table: &mut [u8], ring: &mut [u8], run: Run, entry: &[u8]) -> Run {
+fn offered(table: &mut [u8], ring: &mut [u8], stocks: &mut [u8], run: Run, entry: &[u8]) -> Run {
     let was = run.marks;
-    let before = copied(table, ring);
-    let stepped = step(table, ring, was, entry);
+    let before = copied(table, ring, stocks);
+    let stepped = step(table, ring, was, stocks, entry);
     let marks = stepped.marks;
     let answer = stepped.answer;
-    let after = copied(table, ring);
+    let after = copied(table, ring, stocks);
     answered(run, marks, last(answer, was, marks, before, after))
 }
 
-fn played(table: &mut [u8], ring: &mut [u8], before: Run, kind: u8, n: u32) -> Run {
+fn played(
+    table: &mut [u8],
+    ring: &mut [u8],
+    stocks: &mut [u8],
+    before: Run,
+    kind: u8,
+    n: u32,
+) -> Run {
     let mut run = before;
     if !before.keeps {
         run = emptied(ring, before);
     }
     let bytes = entry(run, kind, n);
-    offered(table, ring, run, part(&bytes, 0, size(run, kind)))
+    offered(table, ring, stocks, run, part(&bytes, 0, size(run, kind)))
 }
 
-// What a script does to the table beside its entries.
-fn prepared(table: &mut [u8], letter: u8, n: u32) {
+// What a script does to the table and the list beside its entries.
+fn prepared(table: &mut [u8], stocks: &mut [u8], letter: u8, n: u32) {
     match letter {
+        b'L' => {
+            put(stocks, 0, b"ABD");
+        }
+        b'J' => {
+            put(stocks, 8, b"X");
+        }
         b'T' => {
             put(table, 0, &[9]);
         }
@@ -118,14 +136,21 @@ fn prepared(table: &mut [u8], letter: u8, n: u32) {
 
 fn prepares(letter: u8) -> bool {
     match letter {
-        b' ' | b'T' | b'N' | b'F' | b'V' => true,
+        b' ' | b'T' | b'N' | b'F' | b'V' | b'L' | b'J' => true,
         _ => false,
     }
 }
 
-fn acted(table: &mut [u8], ring: &mut [u8], run: Run, letter: u8, n: u32) -> Run {
+fn acted(
+    table: &mut [u8],
+    ring: &mut [u8],
+    stocks: &mut [u8],
+    run: Run,
+    letter: u8,
+    n: u32,
+) -> Run {
     if prepares(letter) {
-        prepared(table, letter, n);
+        prepared(table, stocks, letter, n);
         return run;
     }
     if letter == b'g' {
@@ -134,17 +159,17 @@ fn acted(table: &mut [u8], ring: &mut [u8], run: Run, letter: u8, n: u32) -> Run
     if sets(letter) {
         return set(run, letter, n);
     }
-    played(table, ring, run, letter, n)
+    played(table, ring, stocks, run, letter, n)
 }
 
-fn ended(table: &mut [u8], ring: &mut [u8], word: Word) -> Word {
+fn ended(table: &mut [u8], ring: &mut [u8], stocks: &mut [u8], word: Word) -> Word {
     let before = word.run;
     let r = before.ring;
     if ring.len() < r {
         return word;
     }
     Word {
-        run: acted(table, &mut ring[0..r], before, word.letter, word.n),
+        run: acted(table, &mut ring[0..r], stocks, before, word.letter, word.n),
         letter: b' ',
         n: 0,
     }
@@ -163,9 +188,9 @@ fn numbered(before: Word, digit: u8) -> Word {
     word
 }
 
-fn followed(table: &mut [u8], ring: &mut [u8], word: Word, c: u8) -> Word {
+fn followed(table: &mut [u8], ring: &mut [u8], stocks: &mut [u8], word: Word, c: u8) -> Word {
     if c == b' ' {
-        return ended(table, ring, word);
+        return ended(table, ring, stocks, word);
     }
     if b'0' <= c {
         if c <= b'9' {
@@ -175,7 +200,7 @@ fn followed(table: &mut [u8], ring: &mut [u8], word: Word, c: u8) -> Word {
     lettered(word, c)
 }
 
-pub(crate) fn play(table: &mut [u8], ring: &mut [u8], script: &[u8]) -> Run {
+pub(crate) fn play(table: &mut [u8], ring: &mut [u8], stocks: &mut [u8], script: &[u8]) -> Run {
     let mut word = Word {
         run: begun(),
         letter: b' ',
@@ -183,7 +208,7 @@ pub(crate) fn play(table: &mut [u8], ring: &mut [u8], script: &[u8]) -> Run {
     };
     let mut i: usize = 0;
     while i < script.len() {
-        word = followed(table, ring, word, script[i]);
+        word = followed(table, ring, stocks, word, script[i]);
         i += 1;
     }
     word.run

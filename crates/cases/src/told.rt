@@ -164,7 +164,15 @@ fn behind(older: &[u8], out: &mut [u8], from: usize) -> usize {
     put(out, at, b"?")
 }
 
-pub(crate) fn told(table: &[u8], ring: &[u8], run: Run, out: &mut [u8]) -> usize {
+// Whether the list's stock is halted.
+fn halted(stocks: &[u8], out: &mut [u8], from: usize) -> usize {
+    if letter(stocks, 8) == b'H' {
+        return put(out, from, b", ABC halted");
+    }
+    from
+}
+
+pub(crate) fn told(table: &[u8], ring: &[u8], stocks: &[u8], run: Run, out: &mut [u8]) -> usize {
     if run.last.answer != 0 {
         return refused(run, out);
     }
@@ -176,5 +184,6 @@ pub(crate) fn told(table: &[u8], ring: &[u8], run: Run, out: &mut [u8]) -> usize
     let b = order(table, b'A', out, a);
     let c = intact(table, run, out, b);
     let d = order(table, b'B', out, c);
-    behind(part(&sent, 0, before), out, d)
+    let e = halted(stocks, out, d);
+    behind(part(&sent, 0, before), out, e)
 }

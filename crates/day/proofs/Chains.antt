@@ -24,11 +24,11 @@ use Rattle.rules.specs.declared.plan.Plan.{Plan}
 use Rattle.laws.proofs.Shapes.{Changed, Born, toldExecuted, ofNone, subject, Shape, nobody, changes, accepts, rejects, replaces}
 use Rattle.notices.specs.Notices.{message}
 use Rattle.laws.proofs.Standing.{live-state, executed-most, standing-used}
-use Rattle.host.specs.Step.{oneIf, comesTo}
+use Rattle.host.specs.Step.{Books, oneIf, booksAfter, comesTo}
 use Rattle.laws.proofs.Given.{from-is, live-there, shaped-none, none-unused}
 use Rattle.laws.proofs.Sounds.{S, P, K, p, place, o as namedOrder, one}
 use Rattle.laws.proofs.Records.{Face, face, faceAt, left, left-used, changed-face, unchanged-face, unchanged-faces, added-face, earlier-face}
-use Rattle.day.specs.Day.{telling, unlimited, tableAfter}
+use Rattle.day.specs.Day.{telling, unlimited, booksWith}
 use Rattle.day.specs.Chain.{executedIn, chain, executedAlong}
 use Rattle.day.proofs.Plays.{plays}
 use Rattle.day.proofs.Ledger.{Carries, fromNothing, fromBefore, Balanced, still, moved, grown}
@@ -36,8 +36,8 @@ use Rattle.day.proofs.Tokens.{named-is, named-none, has-used, used-has,
 use Rattle.day.proofs.Telling.{tells, executed-append, executed-telling}
 
 -- the ledger of a table, of the messages told so far
-abbrev pub Books : List ℕ → List (List ℕ) → Type 0
-Books t past = Balanced (header t .used) (faceAt t) (λ token. executedIn token past)
+abbrev pub Ledger : List ℕ → List (List ℕ) → Type 0
+Ledger t past = Balanced (header t .used) (faceAt t) (λ token. executedIn token past)
 
 nobody-tells : (notice : Notice) → subject notice ≡ ofNone → toldExecuted notice ≡ 0
 nobody-tells Silent of = refl
@@ -55,160 +55,166 @@ nobody-tells Modified of = refl
 
 -- ---- one done entry
 
-module _ (t s : List ℕ) (ok : sound t ≡ true) (done : isDone (comesTo t s .answer) ≡ true) (past : List (List ℕ)) (books : Books t past) where
-  abbrev plan : Plan
-  plan = p t s ok done
+module _ (books : Books) (s : List ℕ) (ok : sound (books .table) ≡ true) (done : isDone (comesTo books s .answer) ≡ true) (past : List (List ℕ))
+    (ledger : Ledger (books .table) past)
+  where
+    abbrev t : List ℕ
+    t = books .table
 
-  abbrev o : Order
-  o = namedOrder t s ok done
+    abbrev plan : Plan
+    plan = p books s ok done
 
-  abbrev at : ℕ
-  at = place t s ok done
+    abbrev o : Order
+    o = namedOrder books s ok done
 
-  abbrev used : ℕ
-  used = header t .used
+    abbrev at : ℕ
+    at = place books s ok done
 
-  abbrev mid : List ℕ
-  mid = one t s ok done
+    abbrev used : ℕ
+    used = header t .used
 
-  abbrev end : List ℕ
-  end = left t s ok done
+    abbrev mid : List ℕ
+    mid = one books s ok done
 
-  abbrev told : List ℕ → ℕ
-  told token = executedIn token past
+    abbrev end : List ℕ
+    end = left books s ok done
 
-  -- what is told with this entry's message
-  abbrev later : List ℕ → ℕ
-  later token = executedIn token (past ++ telling (message (stampOf s) plan) [])
+    abbrev told : List ℕ → ℕ
+    told token = executedIn token past
 
-  told-later : length (plan .changed .token) ≡ tokenSize → toldExecuted (plan .notice) < 256 ^ 4 → (token : List ℕ)
-      → later token ≡ told token + pick (same (plan .changed .token) token) (toldExecuted (plan .notice)) 0
-  unfolding message
-  told-later long fits token =
-      executed-append token past _
-      ∙ ap (λ (n : ℕ). told token + n)
-      (executed-telling token (message (stampOf s) plan) ∙ tells (stampOf s) (plan .changed) (plan .added) (plan .notice) token long fits)
+    -- what is told with this entry's message
+    abbrev later : List ℕ → ℕ
+    later token = executedIn token (past ++ telling (message (stampOf s) plan) [])
 
-  -- ---- the named order
+    told-later : length (plan .changed .token) ≡ tokenSize → toldExecuted (plan .notice) < 256 ^ 4 → (token : List ℕ)
+        → later token ≡ told token + pick (same (plan .changed .token) token) (toldExecuted (plan .notice)) 0
+    unfolding message
+    told-later long fits token =
+        executed-append token past _
+        ∙ ap (λ (n : ℕ). told token + n)
+        (executed-telling token (message (stampOf s) plan) ∙ tells (stampOf s) (plan .changed) (plan .added) (plan .notice) token long fits)
 
-  -- nothing of it changes, and nothing is told as executed
-  silent : plan .changed ≡ noOrder → toldExecuted (plan .notice) ≡ 0 → Balanced used (faceAt mid) later
-  silent none quiet =
-      still used (faceAt t) (faceAt mid) told books later (λ i l. unchanged-faces t s ok done (ap isUsed none ∙ none-unused) i) λ token.
-      told-later (ap (λ (q : Order). length (q .token)) none ∙ shaped-none .token) (omega (arith, quiet)) token
-      ∙ by (same (plan .changed .token) token)
-    where
-      by : (b : Bool) {n : ℕ} → n + pick b (toldExecuted (plan .notice)) 0 ≡ n
-      by true = omega (arith, quiet)
-      by false = omega arith
+    -- ---- the named order
 
-  module _ (c : Changed o (plan .notice) (plan .changed)) where
-    there : at < used
-    there = omega (arith, live-there t at (c .alive), S t s ok done .used)
-
-    is : face o ≡ faceAt t at
-    is = ap face (from-is t at (live-there t at (c .alive)))
-
-    becomes : faceAt mid at ≡ face (plan .changed)
-    becomes = changed-face t s ok done (standing-used _ (c .standing))
-
-    all-told : (token : List ℕ) → later token ≡ told token + pick (same (plan .changed .token) token) (toldExecuted (plan .notice)) 0
-    all-told = told-later (c .shaped .token) (omega (arith, c .executed, executed-most (plan .changed) (c .standing)))
-
-    own : same (plan .changed .token) (faceAt t at .token) ≡ true
-    own = ap (λ (x : List ℕ). same x (faceAt t at .token)) (c .token ∙ ap (λ (x : Face). x .token) is) ∙ same-self (faceAt t at .token)
-
-    other : (token : List ℕ) → (faceAt t at .token ≡ token → ⊥) → same (plan .changed .token) token ≡ false
-    other token apart = by (same (plan .changed .token) token) refl
+    -- nothing of it changes, and nothing is told as executed
+    silent : plan .changed ≡ noOrder → toldExecuted (plan .notice) ≡ 0 → Balanced used (faceAt mid) later
+    silent none quiet =
+        still used (faceAt t) (faceAt mid) told ledger later (λ i l. unchanged-faces books s ok done (ap isUsed none ∙ none-unused) i) λ token.
+        told-later (ap (λ (q : Order). length (q .token)) none ∙ shaped-none .token) (omega (arith, quiet)) token
+        ∙ by (same (plan .changed .token) token)
       where
-        by : (b : Bool) → same (plan .changed .token) token ≡ b → b ≡ false
-        by true e = absurd (apart (sym (ap (λ (x : Face). x .token) is) ∙ sym (c .token) ∙ same-true _ _ e))
-        by false e = refl
+        by : (b : Bool) {n : ℕ} → n + pick b (toldExecuted (plan .notice)) 0 ≡ n
+        by true = omega (arith, quiet)
+        by false = omega arith
 
-    speaking : Balanced used (faceAt mid) later
-    speaking =
-        moved used (faceAt t) (faceAt mid) told books at (toldExecuted (plan .notice)) there
-        (sym (ap (λ (x : Face). x .state) is) ∙ live-state o (c .alive))
-        (λ i l apart. unchanged-face t s ok done i apart)
-        (ap (λ (x : Face). x .token) becomes ∙ c .token ∙ ap (λ (x : Face). x .token) is)
-        (ap (λ (x : Face). x .previous) becomes ∙ c .previous ∙ ap (λ (x : Face). x .previous) is)
-        (ap (λ (x : Face). x .executed) becomes ∙ c .executed ∙ ap (λ (x : Face). x .executed + toldExecuted (plan .notice)) is)
-        (subst (λ (x : Face). x .executed ≤ mostShares) (sym becomes) (executed-most (plan .changed) (c .standing)))
-        later
-        (all-told (faceAt t at .token) ∙ ap (λ (b : Bool). told (faceAt t at .token) + pick b (toldExecuted (plan .notice)) 0) own)
-        (λ token apart.
-        all-told token ∙ ap (λ (b : Bool). told token + pick b (toldExecuted (plan .notice)) 0) (other token apart) ∙ omega arith)
+    module _ (c : Changed o (plan .notice) (plan .changed)) where
+      there : at < used
+      there = omega (arith, live-there t at (c .alive), S books s ok done .used)
 
-  -- ---- the added one
+      is : face o ≡ faceAt t at
+      is = ap face (from-is t at (live-there t at (c .alive)))
 
-  -- there is none
-  no-more : plan .added ≡ noOrder → Balanced used (faceAt mid) later → Balanced (header end .used) (faceAt end) later
-  no-more none b =
-      let same-used : header end .used ≡ used = left-used t s ok done ∙ ap (λ (q : Order). used + oneIf (isUsed q)) none ∙ ap (λ (x : Bool). used + oneIf x) none-unused ∙ omega arith in
-      subst (λ (n : ℕ). Balanced n (faceAt end) later) (sym same-used)
-      (still used (faceAt mid) (faceAt end) later b later (λ i l. earlier-face t s ok done i l) (λ _. refl))
+      becomes : faceAt mid at ≡ face (plan .changed)
+      becomes = changed-face books s ok done (standing-used _ (c .standing))
 
-  -- there is one, under the token that the entry uses up
-  module _ (is-used : isUsed (plan .added) ≡ true) (free : isUsed (orderNamed t (K t s ok done .0)) ≡ false)
-      (has : plan .added .token ≡ K t s ok done .0)
-    where
-      new : (i : ℕ) → i < used → faceAt mid i .token ≡ faceAt end used .token → ⊥
-      new i l e =
-          let token = K t s ok done .0 in
-          let here : orderAt t i .token ≡ token =
-          sym (tokens-stay t s ok done i l)
-          ∙ ap (λ (x : Face). x .token) (earlier-face t s ok done i l)
-          ∙ e
-          ∙ ap (λ (x : Face). x .token) (added-face t s ok done is-used)
-          ∙ has in
-          false≢true (sym free ∙ has-used t token (S t s ok done) i (omega (arith, l, S t s ok done .used)) here)
+      all-told : (token : List ℕ) → later token ≡ told token + pick (same (plan .changed .token) token) (toldExecuted (plan .notice)) 0
+      all-told = told-later (c .shaped .token) (omega (arith, c .executed, executed-most (plan .changed) (c .standing)))
 
-      one-more : Carries used (faceAt mid) 0 (face (plan .added)) → plan .added .shares .executed .0 ≤ mostShares → Balanced used (faceAt mid) later → Balanced (header end .used) (faceAt end) later
-      one-more carry few b =
-          subst (λ (n : ℕ). Balanced n (faceAt end) later) (sym (left-used t s ok done ∙ ap (λ (x : Bool). used + oneIf x) is-used))
-          (grown used (faceAt mid) (faceAt end) later b (λ i l. earlier-face t s ok done i l) new
-          (subst (Carries used (faceAt mid) 0) (sym (added-face t s ok done is-used)) carry)
-          (subst (λ (x : Face). x .executed ≤ mostShares) (sym (added-face t s ok done is-used)) few))
+      own : same (plan .changed .token) (faceAt t at .token) ≡ true
+      own = ap (λ (x : List ℕ). same x (faceAt t at .token)) (c .token ∙ ap (λ (x : Face). x .token) is) ∙ same-self (faceAt t at .token)
 
-  -- ---- both, by the plan's shape
+      other : (token : List ℕ) → (faceAt t at .token ≡ token → ⊥) → same (plan .changed .token) token ≡ false
+      other token apart = by (same (plan .changed .token) token) refl
+        where
+          by : (b : Bool) → same (plan .changed .token) token ≡ b → b ≡ false
+          by true e = absurd (apart (sym (ap (λ (x : Face). x .token) is) ∙ sym (c .token) ∙ same-true _ _ e))
+          by false e = refl
 
-  born-used : {token before : List ℕ} {executed : ℕ} (new : Order) → Born token executed before new → isUsed new ≡ true
-  born-used new b = standing-used new (inl (b .alive))
+      speaking : Balanced used (faceAt mid) later
+      speaking =
+          moved used (faceAt t) (faceAt mid) told ledger at (toldExecuted (plan .notice)) there
+          (sym (ap (λ (x : Face). x .state) is) ∙ live-state o (c .alive))
+          (λ i l apart. unchanged-face books s ok done i apart)
+          (ap (λ (x : Face). x .token) becomes ∙ c .token ∙ ap (λ (x : Face). x .token) is)
+          (ap (λ (x : Face). x .previous) becomes ∙ c .previous ∙ ap (λ (x : Face). x .previous) is)
+          (ap (λ (x : Face). x .executed) becomes ∙ c .executed ∙ ap (λ (x : Face). x .executed + toldExecuted (plan .notice)) is)
+          (subst (λ (x : Face). x .executed ≤ mostShares) (sym becomes) (executed-most (plan .changed) (c .standing)))
+          later
+          (all-told (faceAt t at .token) ∙ ap (λ (b : Bool). told (faceAt t at .token) + pick b (toldExecuted (plan .notice)) 0) own)
+          (λ token apart.
+          all-told token ∙ ap (λ (b : Bool). told token + pick b (toldExecuted (plan .notice)) 0) (other token apart) ∙ omega arith)
 
-  by-shape : Shape o (orderNamed t (K t s ok done .0)) (K t s ok done .0) plan → Balanced (header end .used) (faceAt end) later
-  unfolding rejectedOrder newCounts noOrder orderOf isUsed
-  by-shape (nobody c a of) = no-more a (silent c (nobody-tells (plan .notice) of))
-  by-shape (changes c a of) = no-more a (speaking c)
-  by-shape (accepts free c born e) =
-      one-more (born-used (plan .added) born) free (born .token) (fromNothing (born .previous) (born .carried)) (omega (arith, born .carried))
-      (silent c (ap toldExecuted e))
-  by-shape (rejects free c a reason e) =
-      one-more (ap isUsed a) free (ap (λ (q : Order). q .token) a)
-      (fromNothing (ap (λ (q : Order). q .details .previous) a) (ap (λ (q : Order). q .shares .executed .0) a))
-      (omega (arith, ap (λ (q : Order). q .shares .executed .0) a))
-      (silent c (ap toldExecuted e))
-  by-shape (replaces free c is-dead born e) =
-      let c′ : Changed o (plan .notice) (plan .changed) = rw e c in
-      let stored = becomes c′ in
-      one-more (born-used (plan .added) born) free (born .token)
-      (fromBefore at (there c′) (ap (λ (x : Face). x .token) stored ∙ c .token ∙ sym (born .previous))
-      (λ alive. let z : _≡_ {A = ℕ} dead live = sym is-dead ∙ sym (ap (λ (x : Face). x .state) stored) ∙ alive in omega (arith, z))
-      (omega (arith, born .carried, c .executed, ap (λ (x : Face). x .executed) stored)))
-      (executed-most (plan .added) (inl (born .alive)))
-      (speaking c′)
+    -- ---- the added one
 
-  -- the table and the messages as a play has them
-  pub turned : Books (tableAfter t s (comesTo t s .plan)) (past ++ telling (message (stampOf s) (comesTo t s .plan)) [])
-  turned =
-      subst (λ (d : Decision). Books (tableAfter t s (d .plan)) (past ++ telling (message (stampOf s) (d .plan)) [])) (sym (P t s ok done .is))
-      (by-shape (K t s ok done .1 .1 .shape))
+    -- there is none
+    no-more : plan .added ≡ noOrder → Balanced used (faceAt mid) later → Balanced (header end .used) (faceAt end) later
+    no-more none b =
+        let same-used : header end .used ≡ used = left-used books s ok done ∙ ap (λ (q : Order). used + oneIf (isUsed q)) none ∙ ap (λ (x : Bool). used + oneIf x) none-unused ∙ omega arith in
+        subst (λ (n : ℕ). Balanced n (faceAt end) later) (sym same-used)
+        (still used (faceAt mid) (faceAt end) later b later (λ i l. earlier-face books s ok done i l) (λ _. refl))
+
+    -- there is one, under the token that the entry uses up
+    module _ (is-used : isUsed (plan .added) ≡ true) (free : isUsed (orderNamed t (K books s ok done .0)) ≡ false)
+        (has : plan .added .token ≡ K books s ok done .0)
+      where
+        new : (i : ℕ) → i < used → faceAt mid i .token ≡ faceAt end used .token → ⊥
+        new i l e =
+            let token = K books s ok done .0 in
+            let here : orderAt t i .token ≡ token =
+            sym (tokens-stay books s ok done i l)
+            ∙ ap (λ (x : Face). x .token) (earlier-face books s ok done i l)
+            ∙ e
+            ∙ ap (λ (x : Face). x .token) (added-face books s ok done is-used)
+            ∙ has in
+            false≢true (sym free ∙ has-used t token (S books s ok done) i (omega (arith, l, S books s ok done .used)) here)
+
+        one-more : Carries used (faceAt mid) 0 (face (plan .added)) → plan .added .shares .executed .0 ≤ mostShares → Balanced used (faceAt mid) later → Balanced (header end .used) (faceAt end) later
+        one-more carry few b =
+            subst (λ (n : ℕ). Balanced n (faceAt end) later) (sym (left-used books s ok done ∙ ap (λ (x : Bool). used + oneIf x) is-used))
+            (grown used (faceAt mid) (faceAt end) later b (λ i l. earlier-face books s ok done i l) new
+            (subst (Carries used (faceAt mid) 0) (sym (added-face books s ok done is-used)) carry)
+            (subst (λ (x : Face). x .executed ≤ mostShares) (sym (added-face books s ok done is-used)) few))
+
+    -- ---- both, by the plan's shape
+
+    born-used : {token before : List ℕ} {executed : ℕ} (new : Order) → Born token executed before new → isUsed new ≡ true
+    born-used new b = standing-used new (inl (b .alive))
+
+    by-shape : Shape o (orderNamed t (K books s ok done .0)) (K books s ok done .0) plan → Balanced (header end .used) (faceAt end) later
+    unfolding rejectedOrder newCounts noOrder orderOf isUsed
+    by-shape (nobody c a of) = no-more a (silent c (nobody-tells (plan .notice) of))
+    by-shape (changes c a of) = no-more a (speaking c)
+    by-shape (accepts free c born e) =
+        one-more (born-used (plan .added) born) free (born .token) (fromNothing (born .previous) (born .carried)) (omega (arith, born .carried))
+        (silent c (ap toldExecuted e))
+    by-shape (rejects free c a reason e) =
+        one-more (ap isUsed a) free (ap (λ (q : Order). q .token) a)
+        (fromNothing (ap (λ (q : Order). q .details .previous) a) (ap (λ (q : Order). q .shares .executed .0) a))
+        (omega (arith, ap (λ (q : Order). q .shares .executed .0) a))
+        (silent c (ap toldExecuted e))
+    by-shape (replaces free c is-dead born e) =
+        let c′ : Changed o (plan .notice) (plan .changed) = rw e c in
+        let stored = becomes c′ in
+        one-more (born-used (plan .added) born) free (born .token)
+        (fromBefore at (there c′) (ap (λ (x : Face). x .token) stored ∙ c .token ∙ sym (born .previous))
+        (λ alive. let z : _≡_ {A = ℕ} dead live = sym is-dead ∙ sym (ap (λ (x : Face). x .state) stored) ∙ alive in omega (arith, z))
+        (omega (arith, born .carried, c .executed, ap (λ (x : Face). x .executed) stored)))
+        (executed-most (plan .added) (inl (born .alive)))
+        (speaking c′)
+
+    -- the table and the messages as a play has them
+    pub turned : Ledger (booksWith books s (comesTo books s .plan) .table) (past ++ telling (message (stampOf s) (comesTo books s .plan)) [])
+    unfolding booksAfter
+    turned =
+        subst (λ (d : Decision). Ledger (booksWith books s (d .plan) .table) (past ++ telling (message (stampOf s) (d .plan)) [])) (sym (P books s ok done .is))
+        (by-shape (K books s ok done .1 .1 .shape))
 
 -- ---- any tape
 
 -- where no record is used and nothing was told yet
-pub opened-books : (t : List ℕ) → header t .used ≡ 0 → Books t []
+pub opened-ledger : (t : List ℕ) → header t .used ≡ 0 → Ledger t []
 unfolding executedIn
-opened-books t none =
+opened-ledger t none =
     record {
       apart = λ i j a b e. absurd (omega (arith, none));
       carries = λ i l. absurd (omega (arith, none));
@@ -216,9 +222,9 @@ opened-books t none =
       untold = λ token nobody. refl;
     }
 
-pub books-kept : (ss : List (List ℕ)) (t : List ℕ) (past : List (List ℕ)) → sound t ≡ true → Books t past
-    → Books (unlimited t ss .table) (past ++ unlimited t ss .messages)
-books-kept ss t past ok books = plays Books (λ t′ s told good done b. turned t′ s good done told b) ss t past ok books
+pub ledger-kept : (ss : List (List ℕ)) (b : Books) (past : List (List ℕ)) → sound (b .table) ≡ true → Ledger (b .table) past
+    → Ledger (unlimited b ss .books .table) (past ++ unlimited b ss .messages)
+ledger-kept ss b past ok ledger = plays (λ b′ past. Ledger (b′ .table) past) (λ b′ s told good done l. turned b′ s good done told l) ss b past ok ledger
 
 -- ---- along a chain
 
@@ -230,7 +236,7 @@ no-token : judgedToken (zeros tokenSize) ≡ false
 unfolding allBelow tokenByte capital small digit
 no-token = refl
 
-module _ (t : List ℕ) (ok : Sound t) (ms : List (List ℕ)) (books : Books t ms) where
+module _ (t : List ℕ) (ok : Sound t) (ms : List (List ℕ)) (ledger : Ledger t ms) where
   -- zeros are no token
   before-first : orderNamed t (zeros tokenSize) .shares .executed .0 ≡ 0
   unfolding orderAt
@@ -248,7 +254,7 @@ module _ (t : List ℕ) (ok : Sound t) (ms : List (List ℕ)) (books : Books t m
   names : (j : ℕ) → j < header t .used → (token : List ℕ) → orderAt t j .token ≡ token → orderNamed t token ≡ orderAt t j
   names j l token has =
       let q = used-has t token (has-used t token ok j (omega (arith, l, ok .used)) has) in
-      named-is t token q ∙ ap (orderAt t) (books .apart (placeOf t token) j (omega (arith, q, ok .used)) l (found t token q .has ∙ sym has))
+      named-is t token q ∙ ap (orderAt t) (ledger .apart (placeOf t token) j (omega (arith, q, ok .used)) l (found t token q .has ∙ sym has))
 
   along : (n : ℕ) (token : List ℕ) → executedAlong (chain t n token) ms ≤ orderNamed t token .shares .executed .0
   unfolding chain executedAlong
@@ -272,11 +278,11 @@ module _ (t : List ℕ) (ok : Sound t) (ms : List (List ℕ)) (books : Books t m
           → executedAlong (pick b (token ∷ chain t n (orderNamed t token .details .previous)) []) ms ≤ orderNamed t token .shares .executed .0
       by true u less =
           let l = used-has t token u in
-          rw (named-is t token l) (back (books .carries at (omega (arith, l, ok .used))) (found t token l .has) (less (orderAt t at .details .previous)))
+          rw (named-is t token l) (back (ledger .carries at (omega (arith, l, ok .used))) (found t token l .has) (less (orderAt t at .details .previous)))
       by false u less = omega arith
 
   pub never-above : (n : ℕ) (token : List ℕ) → executedAlong (chain t n token) ms ≤ mostShares
   never-above n token = elim (decLt (placeOf t token) (usedIn t)) [
-    | yes l ↦ omega (arith, along n token, ap (λ (q : Order). q .shares .executed .0) (named-is t token l), books .most (placeOf t token) (omega (arith, l, ok .used)))
+    | yes l ↦ omega (arith, along n token, ap (λ (q : Order). q .shares .executed .0) (named-is t token l), ledger .most (placeOf t token) (omega (arith, l, ok .used)))
     | no l ↦ omega (arith, along n token, ap (λ (q : Order). q .shares .executed .0) (named-none t token (omega arith)), none-executed)
   ]

@@ -11,14 +11,15 @@ use Rattle.outbox.proofs.Board.{held-is-enough, release-keeps-good}
 use Rattle.outbox.proofs.Guards.{release-marks-done}
 use Rattle.answers.specs.declared.Answer.the-variants.{Blocked}
 use Rattle.outbox.specs.declared.marks.Marks.{Marks}
-use Rattle.host.specs.Step.{World, Outcome, namedPlace, noRoom, step, worldAfter}
+use Rattle.host.specs.Step.{World, Outcome, namedPlace, noRoom, step, booksAfter, worldAfter}
 use Rattle.table.proofs.Soundness.{of-sound}
-use Rattle.day.specs.Demand.{Ready}
 use Rattle.day.specs.Day.{offerNext, release, run, emptied, patient}
 use Rattle.laws.specs.Blocked.{isBlocked}
+use Rattle.laws.specs.Ready.{Ready}
 use Rattle.laws.proofs.Steps.{stepBy, comes, full, only-done-changes}
 use Rattle.day.proofs.Day.{as-judged, ring-after}
 use Rattle.laws.proofs.Sounds.{keeps}
+use Rattle.laws.proofs.Halted.{stays-good}
 use Rattle.laws.proofs.Sent.{short}
 use Rattle.laws.proofs.Comes.{unblocked}
 
@@ -30,11 +31,11 @@ module _ (w : World) (s : List ℕ) (ok : Ready w) (none : w .marks .held ≡ 0)
   room done =
       let r = right (length (w .ring)) (w .marks) (ok .ring) in
       let h : length (message (stampOf s) (comes w s .plan)) ≤ length (w .ring) - w .marks .held =
-      omega (arith, short (w .table) s (ok .table) done, r .short, none) in
+      omega (arith, short (w .books) s (ok .table) done, r .short, none) in
       le-ltb _ _ h
 
-  by : (done crowd : Bool) → isDone (comes w s .answer) ≡ done → full w s ≡ crowd → isBlocked (stepBy w s (comes w s) true true done crowd .answer) ≡ false
-  by false crowd e f = unblocked (w .table) s (of-sound (w .table) (ok .table))
+  by : (done crowd : Bool) → isDone (comes w s .answer) ≡ done → full w s ≡ crowd → isBlocked (stepBy w s (comes w s) true true true done crowd .answer) ≡ false
+  by false crowd e f = unblocked (w .books) s (of-sound (w .books .table) (ok .table))
   by true true e f = absurd (false≢true (sym (room e) ∙ f))
   by true false e f = refl
 
@@ -43,19 +44,20 @@ module _ (w : World) (s : List ℕ) (ok : Ready w) (none : w .marks .held ≡ 0)
 
 -- ---- what a step leaves behind, ready for the next
 
--- a sound table stays sound, and right marks stay right
+-- a sound table stays sound, right marks and a right list stay right
 pub stays-ready : (w : World) (s : List ℕ) → Ready w → Ready (step w s .world)
-unfolding worldAfter
+unfolding worldAfter booksAfter
 stays-ready w s ok =
     subst (λ (o : Outcome). Ready (o .world)) (sym (as-judged w s ok)) (by-both (isDone (comes w s .answer)) (full w s) refl refl)
   where
-    by-both : (done crowd : Bool) → isDone (comes w s .answer) ≡ done → full w s ≡ crowd → Ready (stepBy w s (comes w s) true true done crowd .world)
+    by-both : (done crowd : Bool) → isDone (comes w s .answer) ≡ done → full w s ≡ crowd → Ready (stepBy w s (comes w s) true true true done crowd .world)
     by-both false crowd e f = ok
     by-both true true e f = ok
     by-both true false e f =
         record {
-          table = keeps (w .table) s (ok .table) e;
-          ring = ring-after w (namedPlace (w .table) s) (stampOf s) (comes w s .plan) (ok .ring) f;
+          table = keeps (w .books) s (ok .table) e;
+          ring = ring-after w (namedPlace (w .books .table) s) (stampOf s) (comes w s .plan) (ok .ring) f;
+          stocks = stays-good (w .books) s (ok .table) e (ok .stocks);
         }
 
 -- a blocked entry leaves everything as it was
@@ -74,6 +76,7 @@ module _ (w : World) (ok : Ready w) where
       record {
         table = ok .table;
         ring = release-keeps-good (length (w .ring)) (w .marks) (w .marks .held) (held-is-enough (length (w .ring)) (w .marks) (w .marks .held) (ok .ring) (le-refl (w .marks .held)));
+        stocks = ok .stocks;
       }
 
   none-held : emptied w .marks .held ≡ 0
@@ -112,9 +115,9 @@ module _ (w : World) (s : List ℕ) (ok : Ready w) where
       × (freeBytes (length (w .ring)) (w .marks) < length (message (stampOf s) (comes w s .plan)))
 
   crowded : (done crowd : Bool) → isDone (comes w s .answer) ≡ done → full w s ≡ crowd
-      → isBlocked (stepBy w s (comes w s) true true done crowd .answer) ≡ true → Crowded
+      → isBlocked (stepBy w s (comes w s) true true true done crowd .answer) ≡ true → Crowded
   unfolding noRoom
-  crowded false crowd e f b = absurd (false≢true (sym (unblocked (w .table) s (of-sound (w .table) (ok .table))) ∙ b))
+  crowded false crowd e f b = absurd (false≢true (sym (unblocked (w .books) s (of-sound (w .books .table) (ok .table))) ∙ b))
   crowded true true e f b = (e, ltb-true _ _ f)
   crowded true false e f b = absurd (false≢true b)
 
@@ -127,4 +130,4 @@ module _ (w : World) (s : List ℕ) (ok : Ready w) where
   unfolding noRoom
   crowded-blocked c =
       ap (λ (o : Outcome). isBlocked (o .answer)) (as-judged w s ok)
-      ∙ ap₂ (λ (x y : Bool). isBlocked (stepBy w s (comes w s) true true x y .answer)) (c .0) (lt-ltb _ _ (c .1))
+      ∙ ap₂ (λ (x y : Bool). isBlocked (stepBy w s (comes w s) true true true x y .answer)) (c .0) (lt-ltb _ _ (c .1))

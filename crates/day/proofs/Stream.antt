@@ -11,9 +11,10 @@ use Rattle.table.specs.Table.{sound}
 use Rattle.tape.specs.Entries.{stampOf}
 use Rattle.notices.specs.Notices.{message}
 use Rattle.laws.specs.Messages.{OneOfTwelve, AtMostOne, silent, told}
-use Rattle.host.specs.Step.{World, comesTo}
+use Rattle.host.specs.Step.{Books, World, comesTo}
 use Rattle.day.specs.Day.{telling, unlimited, Action, run}
-use Rattle.day.specs.Demand.{bytes, Ready, WholeMessages, cutInto, messagesIn, AllOfTwelve}
+use Rattle.day.specs.Demand.{bytes, WholeMessages, cutInto, messagesIn, AllOfTwelve}
+use Rattle.laws.specs.Ready.{Ready}
 use Rattle.laws.proofs.Sent.{sends}
 use Rattle.day.proofs.Plays.{plays}
 use Rattle.day.proofs.Day.{streams}
@@ -26,10 +27,10 @@ one-behind [] (b ∷ bs) (silent e) all = absurd (omega (arith, ap length e))
 one-behind [] (b ∷ bs) (told one most) all = (one, tt)
 one-behind (x ∷ past) m one all = (all .0, one-behind past m one (all .1))
 
-pub all-legal : (ss : List (List ℕ)) (t : List ℕ) → sound t ≡ true → AllOfTwelve (unlimited t ss .messages)
-all-legal ss t ok =
-    plays (λ t′ past. AllOfTwelve past)
-    (λ t′ s past good done all. one-behind past (message (stampOf s) (comesTo t′ s .plan)) (sends t′ s good done) all) ss t [] ok tt
+pub all-legal : (ss : List (List ℕ)) (b : Books) → sound (b .table) ≡ true → AllOfTwelve (unlimited b ss .messages)
+all-legal ss b ok =
+    plays (λ b′ past. AllOfTwelve past)
+    (λ b′ s past good done all. one-behind past (message (stampOf s) (comesTo b′ s .plan)) (sends b′ s good done) all) ss b [] ok tt
 
 -- ---- cutting
 
@@ -72,12 +73,12 @@ cut-again ((b ∷ bs) ∷ ms) all (suc n) enough =
 -- ---- of every schedule that gets through the list
 
 pub whole-messages : (w : World) (ss : List (List ℕ)) (todo : List Action) → Ready w → w .marks .held ≡ 0 → run w ss todo .left ≡ []
-    → WholeMessages (run w ss todo .released ++ bytes (run w ss todo .world)) (unlimited (w .table) ss .messages)
+    → WholeMessages (run w ss todo .released ++ bytes (run w ss todo .world)) (unlimited (w .books) ss .messages)
 unfolding messagesIn
 whole-messages w ss todo ok none through =
-    let legal = all-legal ss (w .table) (ok .table) in
+    let legal = all-legal ss (w .books) (ok .table) in
     record {
       cut = ap (λ (s : List ℕ). cutInto (length s) s) (streams w ss todo ok none through .messages)
-          ∙ cut-again (unlimited (w .table) ss .messages) legal _ (omega arith);
+          ∙ cut-again (unlimited (w .books) ss .messages) legal _ (omega arith);
       legal = legal;
     }

@@ -12,13 +12,14 @@ use Rattle.tape.specs.Entries.{tokenOf}
 use Rattle.rules.specs.declared.plan.Decision.{Decision}
 use Rattle.laws.proofs.Shapes.{Change, unchanged, changed, change-of}
 use Rattle.outbox.specs.Outbox.{ringGood}
-use Rattle.host.specs.Step.{World, Outcome, comesTo, worldAfter, step}
+use Rattle.stocks.specs.Stocks.{listGood}
+use Rattle.host.specs.Step.{Books, World, Outcome, comesTo, booksAfter, worldAfter, step}
 use Rattle.laws.proofs.Given.{from-is, from-none, live-there, none-unused}
 use Rattle.laws.proofs.Standing.{standing-used}
 use Rattle.laws.proofs.Sounds.{S, P, K, keeps, p, place, o, one}
 use Rattle.laws.proofs.Records.{Face, left, left-used, changed-face, unchanged-face, unchanged-faces, earlier-face}
 use Rattle.laws.proofs.Steps.{stepBy, step-by, comes, full}
-use Rattle.day.specs.Day.{unlimited, tableAfter}
+use Rattle.day.specs.Day.{unlimited, booksWith}
 use Rattle.day.proofs.Plays.{plays}
 
 -- ---- a token is used where a used record has it
@@ -56,56 +57,62 @@ module _ (t token : List ℕ) where
 
 -- ---- one done entry
 
-module _ (t s : List ℕ) (ok : sound t ≡ true) (done : isDone (comesTo t s .answer) ≡ true) where
-  abbrev at : ℕ
-  at = place t s ok done
+module _ (books : Books) (s : List ℕ) (ok : sound (books .table) ≡ true) (done : isDone (comesTo books s .answer) ≡ true) where
+  abbrev t : List ℕ
+  t = books .table
 
-  pub tokens-stay : (i : ℕ) → i < header t .used → orderAt (left t s ok done) i .token ≡ orderAt t i .token
-  tokens-stay i l = ap (λ (x : Face). x .token) (earlier-face t s ok done i l) ∙ by (change-of (K t s ok done .1 .1 .shape))
+  abbrev at : ℕ
+  at = place books s ok done
+
+  pub tokens-stay : (i : ℕ) → i < header t .used → orderAt (left books s ok done) i .token ≡ orderAt t i .token
+  tokens-stay i l = ap (λ (x : Face). x .token) (earlier-face books s ok done i l) ∙ by (change-of (K books s ok done .1 .1 .shape))
     where
-      by : Change (o t s ok done) (p t s ok done .notice) (p t s ok done .changed) → orderAt (one t s ok done) i .token ≡ orderAt t i .token
-      by (unchanged e) = ap (λ (x : Face). x .token) (unchanged-faces t s ok done (ap isUsed e ∙ none-unused) i)
+      by : Change (o books s ok done) (p books s ok done .notice) (p books s ok done .changed) → orderAt (one books s ok done) i .token ≡ orderAt t i .token
+      by (unchanged e) = ap (λ (x : Face). x .token) (unchanged-faces books s ok done (ap isUsed e ∙ none-unused) i)
       by (changed c) = elim (ℕ-discrete i at) [
         | yes e ↦
             rw e
-            (ap (λ (x : Face). x .token) (changed-face t s ok done (standing-used _ (c .standing)))
+            (ap (λ (x : Face). x .token) (changed-face books s ok done (standing-used _ (c .standing)))
             ∙ c .token
             ∙ ap (λ (q : Order). q .token) (from-is t at (live-there t at (c .alive))))
-        | no e ↦ ap (λ (x : Face). x .token) (unchanged-face t s ok done i e)
+        | no e ↦ ap (λ (x : Face). x .token) (unchanged-face books s ok done i e)
       ]
 
-  pub left-is : left t s ok done ≡ tableAfter t s (comesTo t s .plan)
-  left-is = ap (λ (d : Decision). tableAfter t s (d .plan)) (sym (P t s ok done .is))
+  pub left-is : left books s ok done ≡ booksWith books s (comesTo books s .plan) .table
+  unfolding booksAfter
+  left-is = ap (λ (d : Decision). booksWith books s (d .plan) .table) (sym (P books s ok done .is))
 
-  pub stays-used : (token : List ℕ) → isUsed (orderNamed t token) ≡ true → isUsed (orderNamed (tableAfter t s (comesTo t s .plan)) token) ≡ true
+  pub stays-used : (token : List ℕ) → isUsed (orderNamed t token) ≡ true → isUsed (orderNamed (booksWith books s (comesTo books s .plan) .table) token) ≡ true
+  unfolding booksAfter
   stays-used token u =
       let l = used-has t token u in
-      let after : Sound (left t s ok done) = of-sound _ (ap sound left-is ∙ keeps t s ok done) in
+      let after : Sound (left books s ok done) = of-sound _ (ap sound left-is ∙ keeps books s ok done) in
       ap (λ (x : List ℕ). isUsed (orderNamed x token)) (sym left-is)
-      ∙ has-used (left t s ok done) token after (placeOf t token) (omega (arith, l, S t s ok done .used, after .used, left-used t s ok done))
-      (tokens-stay (placeOf t token) (omega (arith, l, S t s ok done .used)) ∙ found t token l .has)
+      ∙ has-used (left books s ok done) token after (placeOf t token) (omega (arith, l, S books s ok done .used, after .used, left-used books s ok done))
+      (tokens-stay (placeOf t token) (omega (arith, l, S books s ok done .used)) ∙ found t token l .has)
 
 -- ---- any step, and any tape
 
 module _ (w : World) (s token : List ℕ) where
   abbrev Used : Outcome → Type 0
-  Used o = isUsed (orderNamed (o .world .table) token) ≡ true
+  Used o = isUsed (orderNamed (o .world .books .table) token) ≡ true
 
-  by : (tableGood ringRight done crowd : Bool) → sound (w .table) ≡ tableGood → isDone (comes w s .answer) ≡ done
-      → isUsed (orderNamed (w .table) token) ≡ true → Used (stepBy w s (comes w s) tableGood ringRight done crowd)
-  unfolding worldAfter
-  by false r d crowd g e u = u
-  by true false d crowd g e u = u
-  by true true false crowd g e u = u
-  by true true true true g e u = u
-  by true true true false g e u = stays-used (w .table) s g e token u
+  by : (tableGood ringRight listRight done crowd : Bool) → sound (w .books .table) ≡ tableGood → isDone (comes w s .answer) ≡ done
+      → isUsed (orderNamed (w .books .table) token) ≡ true → Used (stepBy w s (comes w s) tableGood ringRight listRight done crowd)
+  unfolding worldAfter booksAfter
+  by false r l d crowd g e u = u
+  by true false l d crowd g e u = u
+  by true true false d crowd g e u = u
+  by true true true false crowd g e u = u
+  by true true true true true g e u = u
+  by true true true true false g e u = stays-used (w .books) s g e token u
 
-  pub step-stays-used : isUsed (orderNamed (w .table) token) ≡ true → isUsed (orderNamed (step w s .world .table) token) ≡ true
+  pub step-stays-used : isUsed (orderNamed (w .books .table) token) ≡ true → isUsed (orderNamed (step w s .world .books .table) token) ≡ true
   step-stays-used u =
       subst Used (sym (step-by w s))
-      (by (sound (w .table)) (ringGood (length (w .ring)) (w .marks)) (isDone (comes w s .answer)) (full w s) refl refl u)
+      (by (sound (w .books .table)) (ringGood (length (w .ring)) (w .marks)) (listGood (w .books .stocks)) (isDone (comes w s .answer)) (full w s) refl refl u)
 
-pub used-for-good : (ss : List (List ℕ)) (t token : List ℕ) → sound t ≡ true → isUsed (orderNamed t token) ≡ true
-    → isUsed (orderNamed (unlimited t ss .table) token) ≡ true
-used-for-good ss t token ok u =
-    plays (λ t′ past. isUsed (orderNamed t′ token) ≡ true) (λ t′ s past good done v. stays-used t′ s good done token v) ss t [] ok u
+pub used-for-good : (ss : List (List ℕ)) (b : Books) (token : List ℕ) → sound (b .table) ≡ true → isUsed (orderNamed (b .table) token) ≡ true
+    → isUsed (orderNamed (unlimited b ss .books .table) token) ≡ true
+used-for-good ss b token ok u =
+    plays (λ b′ past. isUsed (orderNamed (b′ .table) token) ≡ true) (λ b′ s past good done v. stays-used b′ s good done token v) ss b [] ok u

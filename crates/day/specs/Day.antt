@@ -9,7 +9,7 @@ use Rattle.answers.specs.Answer.{isDone}
 use Rattle.outbox.specs.Outbox.{held, releaseAnswer, releaseMarks}
 use Rattle.notices.specs.Notices.{message}
 use Rattle.tape.specs.Entries.{stampOf}
-use Rattle.host.specs.Step.{World, Outcome, namedPlace, committed, step, comesTo}
+use Rattle.host.specs.Step.{Books, World, Outcome, namedPlace, booksAfter, step, comesTo}
 use Rattle.laws.specs.Blocked.{isBlocked}
 use Rattle.answers.specs.declared.Answer.{Answer}
 use Rattle.rules.specs.declared.plan.Decision.{Decision}
@@ -20,7 +20,7 @@ use Rattle.outbox.specs.declared.marks.Marks.{Marks}
 
 pub record Played : Type 0 where
   pub answers : List Answer
-  pub table : List ℕ
+  pub books : Books
   pub messages : List (List ℕ)
 
 -- an entry that sends nothing adds no message
@@ -28,22 +28,22 @@ abbrev pub telling : List ℕ → List (List ℕ) → List (List ℕ)
 telling [] ms = ms
 telling (b ∷ bs) ms = (b ∷ bs) ∷ ms
 
--- the table after a done entry
-abbrev pub tableAfter : List ℕ → List ℕ → Plan → List ℕ
-tableAfter t s p = committed t (namedPlace t s) (stampOf s) p
+-- the books after a done entry
+abbrev pub booksWith : Books → List ℕ → Plan → Books
+booksWith b s p = booksAfter b (namedPlace (b .table) s) (stampOf s) p
 
 -- one entry, and then the rest
-abbrev pub playOn : List ℕ → List ℕ → Decision → Bool → (List ℕ → Played) → Played
-playOn t s d true rest =
-    let r = rest (tableAfter t s (d .plan)) in
-    record { answers = d .answer ∷ r .answers; table = r .table; messages = telling (message (stampOf s) (d .plan)) (r .messages) }
-playOn t s d false rest =
-    let r = rest t in
-    record { answers = d .answer ∷ r .answers; table = r .table; messages = r .messages }
+abbrev pub playOn : Books → List ℕ → Decision → Bool → (Books → Played) → Played
+playOn b s d true rest =
+    let r = rest (booksWith b s (d .plan)) in
+    record { answers = d .answer ∷ r .answers; books = r .books; messages = telling (message (stampOf s) (d .plan)) (r .messages) }
+playOn b s d false rest =
+    let r = rest b in
+    record { answers = d .answer ∷ r .answers; books = r .books; messages = r .messages }
 
-unfoldable pub unlimited : List ℕ → List (List ℕ) → Played
-unlimited t [] = record { answers = []; table = t; messages = [] }
-unlimited t (s ∷ ss) = playOn t s (comesTo t s) (isDone (comesTo t s .answer)) (λ t′. unlimited t′ ss)
+unfoldable pub unlimited : Books → List (List ℕ) → Played
+unlimited b [] = record { answers = []; books = b; messages = [] }
+unlimited b (s ∷ ss) = playOn b s (comesTo b s) (isDone (comesTo b s .answer)) (λ b′. unlimited b′ ss)
 
 -- ---- with an outbox between
 
@@ -61,7 +61,7 @@ pub record Ran : Type 0 where
   pub world : World
 
 abbrev pub withMarks : World → Marks → World
-withMarks w m = record { table = w .table; ring = w .ring; marks = m }
+withMarks w m = record { books = w .books; ring = w .ring; marks = m }
 
 -- the bytes that a release of k gives up: none where it is refused
 unfoldable pub givenUp : World → ℕ → List ℕ

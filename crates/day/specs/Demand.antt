@@ -1,13 +1,15 @@
 -- What demand 3 asks of a schedule that got through its entries, and of the stream that came out: the conclusions of the theorems of the day.
 use Prim.Native.Nat.{ℕ, zero, suc}
 use mathlib.Core.Path.{_≡_}
-use mathlib.Core.Bool.{true, false}
+use mathlib.Core.Bool.{false}
 use mathlib.Core.List.{List, [], _∷_, _++_}
+use mathlib.Core.Logic.{_≢_}
 use lib.ListN.{length, take, drop}
 use Rattle.octets.specs.Bytes.{joined}
 use Rattle.wire.specs.Messages.{messageLength}
-use Rattle.outbox.specs.Outbox.{ringGood, held}
-use Rattle.table.specs.Table.{sound}
+use Rattle.outbox.specs.Outbox.{held}
+use Rattle.tape.specs.Kinds.{kindOf}
+use Rattle.tape.specs.declared.kinds.Kind.the-variants.{SetsStock}
 use Rattle.host.specs.Step.{World}
 use Rattle.laws.specs.Messages.{OneOfTwelve}
 use Rattle.day.specs.Day.{Played, Ran}
@@ -18,11 +20,6 @@ use Rattle.day.specs.Day.{Played, Ran}
 abbrev pub bytes : World → List ℕ
 bytes w = held (w .ring) (w .marks)
 
--- a step finds nothing wrong with its table and its ring
-pub record Ready (w : World) : Type 0 where
-  pub table : sound (w .table) ≡ true
-  pub ring : ringGood (length (w .ring)) (w .marks) ≡ true
-
 -- ---- the streams
 
 -- what a schedule that got through the entries comes to, beside the same entries with unlimited room
@@ -31,8 +28,8 @@ pub record Streams (p : Played) (r : Ran) : Type 0 where
   pub messages : r .released ++ bytes (r .world) ≡ joined (p .messages)
   -- the other answers agree, in order, and the places that they tell
   pub answers : r .answers ≡ p .answers
-  -- and so does the final table
-  pub table : r .world .table ≡ p .table
+  -- and so do the final table and the final list of stocks (Ask 2)
+  pub books : r .world .books ≡ p .books
 
 -- these bytes are the beginning of that stream
 pub record Begins (s : List ℕ) (whole : List ℕ) : Type 0 where
@@ -64,3 +61,10 @@ AllOfTwelve (m ∷ ms) = OneOfTwelve m × AllOfTwelve ms
 pub record WholeMessages (s : List ℕ) (ms : List (List ℕ)) : Type 0 where
   pub cut : messagesIn s ≡ ms
   pub legal : AllOfTwelve ms
+
+-- ---- the list of stocks
+
+-- none of the entries is an h
+abbrev pub NoHalts : List (List ℕ) → Type 0
+NoHalts [] = Unit {0}
+NoHalts (s ∷ ss) = (kindOf s ≢ SetsStock) × NoHalts ss

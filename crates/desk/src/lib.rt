@@ -1,4 +1,4 @@
-// The practice desk's host: 800 records, threshold 1,000,000, firm ABCD, and a ring of 4,096 bytes.
+// The practice desk's host: 800 records, threshold 1,000,000, firm ABCD, a ring of 4,096 bytes, and one stock, ABC, which trades.
 ghost use mathlib.Core.Path.{_≡_};
 ghost use Rattle.table.specs.Fresh.{freshAnswer, freshTable};
 ghost use Rattle.desk.specs.Desk.{deskSettings};
@@ -12,6 +12,9 @@ use wire::shares::Total;
 pub const TABLE_SIZE: usize = 64_064;
 
 pub const RING_SIZE: usize = 4_096;
+
+// The list of stocks: a symbol and its state.
+pub const STOCKS: [u8; 9] = *b"ABC     T";
 
 // One firm is listed. It stands in all eight places, since those past the count are not looked at.
 pub fn settings() -> Settings

@@ -1,4 +1,4 @@
--- One step: from the table's, the ring's and the entry's bytes to the answer and what is there afterwards. The checks stand in the order of
+-- One step: from the table's, the ring's, the list's and the entry's bytes to the answer and what is there afterwards. The checks stand in the order of
 -- the answer numbers, and nothing is written before the last of them (Answer numbers, in order of checking).
 use Prim.Native.Nat.{ℕ, _+_}
 use mathlib.Core.Path.{_≡_}
@@ -13,8 +13,8 @@ use Rattle.header.specs.Limits.{endOfReferences}
 use Rattle.table.specs.Table.{sound, header, recordsIn, usedIn, placeOf, orderFrom, orderNamed, storeOrder, storeHeader}
 use Rattle.tape.specs.Kinds.{kindOf}
 use Rattle.tape.specs.declared.kinds.Kind.{Kind}
-use Rattle.tape.specs.declared.kinds.Kind.the-variants.{Enters, Replaces, Cancels, Modifies, Executes, BookCancels, SelfMatches, Prioritises, TurnsLate, EndsCross, TellsDay, Unknown}
-use Rattle.tape.specs.Entries.{entryAnswer, namesOrder, stampOf, tokenOf, enterOf, replaceOf, cancelOf, modifyOf, executionOf, bookCancelOf, selfMatchOf, priorityOf, systemOf}
+use Rattle.tape.specs.declared.kinds.Kind.the-variants.{Enters, Replaces, Cancels, Modifies, Executes, BookCancels, SelfMatches, Prioritises, TurnsLate, EndsCross, TellsDay, SetsStock, Unknown}
+use Rattle.tape.specs.Entries.{entryAnswer, namesOrder, stampOf, tokenOf, enterOf, replaceOf, cancelOf, modifyOf, executionOf, bookCancelOf, selfMatchOf, priorityOf, systemOf, stockStateOf}
 use Rattle.rules.specs.Plan.{refused}
 use Rattle.rules.specs.Enter.{enterRule}
 use Rattle.rules.specs.Replace.{replaceRule}
@@ -24,12 +24,20 @@ use Rattle.market.specs.Taken.{executionRule, bookCancelRule, selfMatchRule}
 use Rattle.market.specs.Priority.{priorityRule}
 use Rattle.market.specs.Cross.{lateRule, crossDoneRule}
 use Rattle.market.specs.Day.{systemRule}
+use Rattle.market.specs.Halt.{haltRule}
 use Rattle.notices.specs.Notices.{message}
+use Rattle.stocks.specs.Stocks.{listGood, standingIn, withState}
 use Rattle.outbox.specs.Outbox.{ringGood, freeBytes, ringWith, marksWith}
-use Rattle.host.specs.Types.{Answer, Done, NotSound, WrongRing, Malformed, TooEarly, Full, Blocked, Marks, Header, Order, Begins, Nothing, Day, Plan, Decision}
+use Rattle.host.specs.Types.{Answer, Done, NotSound, WrongRing, WrongStocks, Malformed, TooEarly, Full, Blocked, Marks, Header, Order, Begins, Nothing, Day, StockState, Plan, Decision}
 
-pub record World : Type 0 where
+-- what entries read and change: the table, and the list of stocks (Ask 2)
+pub record Books : Type 0 where
   pub table : List ℕ
+  pub stocks : List ℕ
+
+-- and the outbox that their messages leave by
+pub record World : Type 0 where
+  pub books : Books
   pub ring : List ℕ
   pub marks : Marks
 
@@ -46,23 +54,27 @@ namedPlace t s =
     namesOrder s ⇒ placeOf t (tokenOf s)
     ⨾ usedIn t
 
--- `named` is the order that the entry names, `found` what a Replace's own token means so far
-unfoldable pub decideBy : Kind → Header → Order → Order → List ℕ → Decision
-decideBy Enters h named found s = enterRule h named (enterOf s)
-decideBy Replaces h named found s = replaceRule h named found (replaceOf s)
-decideBy Cancels h named found s = cancelRule named (cancelOf s)
-decideBy Modifies h named found s = modifyRule h named (modifyOf s)
-decideBy Executes h named found s = executionRule h named (executionOf s)
-decideBy BookCancels h named found s = bookCancelRule named (bookCancelOf s)
-decideBy SelfMatches h named found s = selfMatchRule h named (selfMatchOf s)
-decideBy Prioritises h named found s = priorityRule h named (priorityOf s)
-decideBy TurnsLate h named found s = lateRule h named
-decideBy EndsCross h named found s = crossDoneRule named
-decideBy TellsDay h named found s = systemRule h (systemOf s)
-decideBy Unknown h named found s = refused Malformed
+-- `named` is the order that the entry names, `found` what a Replace's own token means so far, l the list of stocks: a rule is told how its stock
+-- stands there
+unfoldable pub decideBy : Kind → Header → Order → Order → List ℕ → List ℕ → Decision
+decideBy Enters h named found l s = enterRule h named (standingIn l (enterOf s .stock)) (enterOf s)
+decideBy Replaces h named found l s = replaceRule h named found (standingIn l (named .details .kept .stock)) (replaceOf s)
+decideBy Cancels h named found l s = cancelRule named (cancelOf s)
+decideBy Modifies h named found l s = modifyRule h named (modifyOf s)
+decideBy Executes h named found l s = executionRule h named (executionOf s)
+decideBy BookCancels h named found l s = bookCancelRule named (bookCancelOf s)
+decideBy SelfMatches h named found l s = selfMatchRule h named (selfMatchOf s)
+decideBy Prioritises h named found l s = priorityRule h named (priorityOf s)
+decideBy TurnsLate h named found l s = lateRule h named
+decideBy EndsCross h named found l s = crossDoneRule named
+decideBy TellsDay h named found l s = systemRule h (systemOf s)
+decideBy SetsStock h named found l s = haltRule (standingIn l (stockStateOf s .symbol)) (stockStateOf s)
+decideBy Unknown h named found l s = refused Malformed
 
-unfoldable pub decide : List ℕ → List ℕ → Decision
-decide t s = decideBy (kindOf s) (header t) (orderFrom t (namedPlace t s)) (orderNamed t (replaceOf s .replacement)) s
+unfoldable pub decide : Books → List ℕ → Decision
+decide b s =
+    let t = b .table in
+    decideBy (kindOf s) (header t) (orderFrom t (namedPlace t s)) (orderNamed t (replaceOf s .replacement)) (b .stocks) s
 
 -- ---- writing a plan down
 
@@ -97,16 +109,23 @@ committed t place stamp p =
     let added = storeIf changed (header t .used) (p .added) in
     storeHeader added (headerAfter (header t) stamp p)
 
+-- noStock says that no state is set
+unfoldable pub setIf : List ℕ → StockState → List ℕ
+setIf l e = pick (eqb (e .state) 0) l (withState l (e .symbol) (e .state))
+
+unfoldable pub booksAfter : Books → ℕ → ℕ → Plan → Books
+booksAfter b place stamp p = record { table = committed (b .table) place stamp p; stocks = setIf (b .stocks) (p .stock) }
+
 unfoldable pub worldAfter : World → ℕ → ℕ → Plan → World
 worldAfter w place stamp p =
     record {
-      table = committed (w .table) place stamp p;
+      books = booksAfter (w .books) place stamp p;
       ring = ringWith (w .ring) (w .marks) (message stamp p);
       marks = marksWith (w .marks) (length (message stamp p));
     }
 
--- ---- what an entry comes to: answers 2 3 4 1 5 7 6 8, from the table and the entry alone. The ring is not looked at, which is why an
--- entry that is blocked comes to the same when it is offered again
+-- ---- what an entry comes to: answers 2 3 4 1 5 7 6 8, from the table, the list and the entry alone. The ring is not looked at, which is why
+-- an entry that is blocked comes to the same when it is offered again
 
 -- 8: a token must be stored and no record is free, or a reference is needed and the next is 10^18
 unfoldable pub noRecordFree : List ℕ → Plan → Bool
@@ -122,12 +141,12 @@ withinLimits t d =
     ⨾ d
 
 -- 2 and 3 are what judging the entry answers; 4: its stamp lies before the last
-unfoldable pub comesTo : List ℕ → List ℕ → Decision
-comesTo t s =
+unfoldable pub comesTo : Books → List ℕ → Decision
+comesTo b s =
     firstOf
     not (isDone (entryAnswer s)) ⇒ refused (entryAnswer s)
-    ⨾ ltb (stampOf s) (header t .last) ⇒ refused TooEarly
-    ⨾ withinLimits t (decide t s)
+    ⨾ ltb (stampOf s) (header (b .table) .last) ⇒ refused TooEarly
+    ⨾ withinLimits (b .table) (decide b s)
 
 -- ---- the step
 
@@ -152,25 +171,30 @@ settle w place stamp d =
     isDone (d .answer) ⇒ carriedOut w place stamp (d .plan)
     ⨾ unchanged w (d .answer)
 
--- what a step does once table and ring are judged
+-- what a step does once table, ring and list are judged
 unfoldable pub offer : World → List ℕ → Outcome
-offer w s = settle w (namedPlace (w .table) s) (stampOf s) (comesTo (w .table) s)
+offer w s = settle w (namedPlace (w .books .table) s) (stampOf s) (comesTo (w .books) s)
 
 unfoldable pub step : World → List ℕ → Outcome
 step w s =
     firstOf
-    not (sound (w .table)) ⇒ unchanged w NotSound
+    not (sound (w .books .table)) ⇒ unchanged w NotSound
     ⨾ not (ringGood (length (w .ring)) (w .marks)) ⇒ unchanged w WrongRing
+    ⨾ not (listGood (w .books .stocks)) ⇒ unchanged w WrongStocks
     ⨾ offer w s
 
 -- ---- what the call promises
 
-abbrev pub world : List ℕ → List ℕ → Marks → World
-world t r m = record { table = t; ring = r; marks = m }
+abbrev pub books : List ℕ → List ℕ → Books
+books t l = record { table = t; stocks = l }
 
--- the answer and the marks that come back, and the table and the ring as they are then
-pub record Leaves (o : Outcome) (answer : Answer) (marks : Marks) (table ring : List ℕ) : Type 0 where
+abbrev pub world : List ℕ → List ℕ → Marks → List ℕ → World
+world t r m l = record { books = books t l; ring = r; marks = m }
+
+-- the answer and the marks that come back, and the table, the ring and the list as they are then
+pub record Leaves (o : Outcome) (answer : Answer) (marks : Marks) (table ring stocks : List ℕ) : Type 0 where
   pub answered : answer ≡ o .answer
   pub marked : marks ≡ o .world .marks
-  pub tabled : table ≡ o .world .table
+  pub tabled : table ≡ o .world .books .table
   pub ringed : ring ≡ o .world .ring
+  pub listed : stocks ≡ o .world .books .stocks

@@ -1,17 +1,21 @@
-// Writing a plan down: the one place where a step changes the table.
+// Writing a plan down, in the table and in the list of stocks: no other function of a step changes them.
 use header::Header;
 use orders::order::Order;
 use orders::order::is_used;
 use rules::plan::Begins;
 use rules::plan::Plan;
+use stocks::set::set_state;
 use table::places::store_header;
 use table::places::store_order;
+use tape::entry::StockState;
 ghost use mathlib.Core.Path.{_≡_};
+ghost use mathlib.Core.Bool.{true};
 ghost use Prim.Native.Nat.{_+_, _≤_};
 ghost use Rattle.header.specs.Limits.{endOfReferences};
+ghost use Rattle.stocks.specs.Stocks.{listGood};
 ghost use Rattle.table.specs.Limits.{mostRecords};
 ghost use Rattle.table.specs.Table.{header};
-ghost use Rattle.host.specs.Step.{oneIf, dayAfter, storeIf, headerAfter, committed};
+ghost use Rattle.host.specs.Step.{oneIf, dayAfter, storeIf, setIf, headerAfter, committed};
 
 // An order of state 0 stands for none, and nothing is stored.
 fn store_if(table: &mut [u8], i: usize, o: Order)
@@ -87,4 +91,15 @@ pub(crate) fn commit(table: &mut [u8], h: Header, place: usize, stamp: u64, plan
     store_if(table, place, changed);
     store_if(table, h.used as usize, added);
     store_header(table, header_after(h, stamp, plan));
+}
+
+// A stock of state 0 stands for none, and no state is set.
+pub(crate) fn set_if(stocks: &mut [u8], stock: StockState)
+    requires { ⌜ listGood (now stocks) ≡ true ⌝ }
+    ensures { λ _. ⌜ now (stocks .exit) ≡ setIf (now (stocks .entry)) stock ⌝ }
+{
+    if stock.state != 0 {
+        let symbol = stock.symbol;
+        set_state(stocks, symbol, stock.state);
+    }
 }

@@ -1,5 +1,6 @@
 // One step: judge, read, decide, ask for room, write. Nothing is written before the last question is answered, so a refusal changes nothing.
 use crate::commit::commit;
+use crate::commit::set_if;
 use crate::decide::comes_to;
 use answers::Answer;
 use answers::is_done;
@@ -10,6 +11,7 @@ use outbox::marks::ring_good;
 use outbox::put::append;
 use rules::plan::Decision;
 use rules::plan::Plan;
+use stocks::judge::list_good;
 use table::find::find;
 use table::places::header;
 use table::places::used;
@@ -25,6 +27,7 @@ ghost use lib.ListN.{length, take};
 ghost use Rattle.answers.specs.declared.Answer.the-variants.{Done};
 ghost use Rattle.header.specs.Limits.{endOfReferences};
 ghost use Rattle.outbox.specs.Outbox.{ringGood, freeBytes, ringWith, marksWith};
+ghost use Rattle.stocks.specs.Stocks.{listGood};
 ghost use Rattle.table.specs.Limits.{mostRecords};
 ghost use Rattle.table.specs.Table.{sound, header};
 ghost use Rattle.tape.specs.Entries.{entryAnswer};
@@ -36,13 +39,25 @@ pub struct Stepped {
     pub marks: Marks,
 }
 
-// The call that a driver makes for each entry. Table and ring are lent, and judged first: no caller has to check anything.
-pub fn step(table: &mut [u8], ring: &mut [u8], marks: Marks, entry: &[u8]) -> Stepped
-    ensures { λ r. ⌜ Leaves (step (world (now (table .entry)) (now (ring .entry)) marks) (now (entry .entry))) (r .answer) (r .marks) (now (table .exit)) (now (ring .exit)) ⌝ }
+// The call that a driver makes for each entry. Table, ring and list are lent, and judged first: no caller has to check anything.
+pub fn step(
+    table: &mut [u8],
+    ring: &mut [u8],
+    marks: Marks,
+    stocks: &mut [u8],
+    entry: &[u8],
+) -> Stepped
+    ensures { λ r. ⌜ Leaves (step (world (now (table .entry)) (now (ring .entry)) marks (now (stocks .entry))) (now (entry .entry))) (r .answer) (r .marks) (now (table .exit)) (now (ring .exit)) (now (stocks .exit)) ⌝ }
 {
     if sound(table) {
         if ring_good(ring.len(), marks) {
-            return offer(table, ring, marks, entry);
+            if list_good(stocks) {
+                return offer(table, ring, marks, stocks, entry);
+            }
+            return Stepped {
+                answer: Answer::WrongStocks,
+                marks,
+            };
         }
         return Stepped {
             answer: Answer::WrongRing,
@@ -55,14 +70,20 @@ pub fn step(table: &mut [u8], ring: &mut [u8], marks: Marks, entry: &[u8]) -> St
     }
 }
 
-// What a step does once table and ring are judged. Whoever plays many entries in a row judges once and calls this.
-pub fn offer(table: &mut [u8], ring: &mut [u8], marks: Marks, entry: &[u8]) -> Stepped
-    requires { ⌜ (sound (now table) ≡ true) × (ringGood (length (now ring)) marks ≡ true) ⌝ }
-    ensures { λ r. ⌜ Leaves (offer (world (now (table .entry)) (now (ring .entry)) marks) (now (entry .entry))) (r .answer) (r .marks) (now (table .exit)) (now (ring .exit)) ⌝ }
+// What a step does once table, ring and list are judged. Whoever plays many entries in a row judges once and calls this.
+pub fn offer(
+    table: &mut [u8],
+    ring: &mut [u8],
+    marks: Marks,
+    stocks: &mut [u8],
+    entry: &[u8],
+) -> Stepped
+    requires { ⌜ (sound (now table) ≡ true) × ((ringGood (length (now ring)) marks ≡ true) × (listGood (now stocks) ≡ true)) ⌝ }
+    ensures { λ r. ⌜ Leaves (offer (world (now (table .entry)) (now (ring .entry)) marks (now (stocks .entry))) (now (entry .entry))) (r .answer) (r .marks) (now (table .exit)) (now (ring .exit)) (now (stocks .exit)) ⌝ }
 {
     let fault = judge(entry);
     if is_done(fault) {
-        return take(table, ring, marks, entry);
+        return take(table, ring, marks, stocks, entry);
     }
     Stepped {
         answer: fault,
@@ -71,9 +92,9 @@ pub fn offer(table: &mut [u8], ring: &mut [u8], marks: Marks, entry: &[u8]) -> S
 }
 
 // A legal entry: in time or not, and then what it comes to.
-fn take(table: &mut [u8], ring: &mut [u8], marks: Marks, entry: &[u8]) -> Stepped
-    requires { ⌜ (sound (now table) ≡ true) × ((ringGood (length (now ring)) marks ≡ true) × (entryAnswer (now entry) ≡ Done)) ⌝ }
-    ensures { λ r. ⌜ Leaves (offer (world (now (table .entry)) (now (ring .entry)) marks) (now (entry .entry))) (r .answer) (r .marks) (now (table .exit)) (now (ring .exit)) ⌝ }
+fn take(table: &mut [u8], ring: &mut [u8], marks: Marks, stocks: &mut [u8], entry: &[u8]) -> Stepped
+    requires { ⌜ (sound (now table) ≡ true) × ((ringGood (length (now ring)) marks ≡ true) × ((listGood (now stocks) ≡ true) × (entryAnswer (now entry) ≡ Done))) ⌝ }
+    ensures { λ r. ⌜ Leaves (offer (world (now (table .entry)) (now (ring .entry)) marks (now (stocks .entry))) (now (entry .entry))) (r .answer) (r .marks) (now (table .exit)) (now (ring .exit)) (now (stocks .exit)) ⌝ }
 {
     let h = header(table);
     let stamp = stamp_of(entry);
@@ -84,11 +105,11 @@ fn take(table: &mut [u8], ring: &mut [u8], marks: Marks, entry: &[u8]) -> Steppe
         };
     }
     let place = named_place(table, entry);
-    let d = comes_to(table, entry, h, place);
-    settle(table, ring, marks, h, place, stamp, d)
+    let d = comes_to(table, stocks, entry, h, place);
+    settle(table, ring, marks, stocks, h, place, stamp, d)
 }
 
-// Where the order stands that the entry names; behind the used records for the system's entries, which name none.
+// Where the order stands that the entry names; behind the used records for s and h, which name none.
 fn named_place(table: &[u8], entry: &[u8]) -> usize
     ensures { λ r. ⌜ r ≡ namedPlace (now (table .entry)) (now (entry .entry)) ⌝ }
 {
@@ -103,18 +124,19 @@ fn settle(
     table: &mut [u8],
     ring: &mut [u8],
     marks: Marks,
+    stocks: &mut [u8],
     h: Header,
     place: usize,
     stamp: u64,
     d: Decision,
 ) -> Stepped
-    requires { ⌜ (ringGood (length (now ring)) marks ≡ true) × ((h ≡ header (now table)) × ((h .used ≤ mostRecords) × (h .reference ≤ endOfReferences))) ⌝ }
-    ensures { λ r. ⌜ Leaves (settle (world (now (table .entry)) (now (ring .entry)) marks) place stamp d) (r .answer) (r .marks) (now (table .exit)) (now (ring .exit)) ⌝ }
+    requires { ⌜ (ringGood (length (now ring)) marks ≡ true) × ((listGood (now stocks) ≡ true) × ((h ≡ header (now table)) × ((h .used ≤ mostRecords) × (h .reference ≤ endOfReferences)))) ⌝ }
+    ensures { λ r. ⌜ Leaves (settle (world (now (table .entry)) (now (ring .entry)) marks (now (stocks .entry))) place stamp d) (r .answer) (r .marks) (now (table .exit)) (now (ring .exit)) (now (stocks .exit)) ⌝ }
 {
     let answer = d.answer;
     if is_done(answer) {
         let plan = d.plan;
-        return carry_out(table, ring, marks, h, place, stamp, plan);
+        return carry_out(table, ring, marks, stocks, h, place, stamp, plan);
     }
     Stepped { answer, marks }
 }
@@ -124,13 +146,14 @@ fn carry_out(
     table: &mut [u8],
     ring: &mut [u8],
     marks: Marks,
+    stocks: &mut [u8],
     h: Header,
     place: usize,
     stamp: u64,
     plan: Plan,
 ) -> Stepped
-    requires { ⌜ (ringGood (length (now ring)) marks ≡ true) × ((h ≡ header (now table)) × ((h .used ≤ mostRecords) × (h .reference ≤ endOfReferences))) ⌝ }
-    ensures { λ r. ⌜ Leaves (carriedOut (world (now (table .entry)) (now (ring .entry)) marks) place stamp plan) (r .answer) (r .marks) (now (table .exit)) (now (ring .exit)) ⌝ }
+    requires { ⌜ (ringGood (length (now ring)) marks ≡ true) × ((listGood (now stocks) ≡ true) × ((h ≡ header (now table)) × ((h .used ≤ mostRecords) × (h .reference ≤ endOfReferences)))) ⌝ }
+    ensures { λ r. ⌜ Leaves (carriedOut (world (now (table .entry)) (now (ring .entry)) marks (now (stocks .entry))) place stamp plan) (r .answer) (r .marks) (now (table .exit)) (now (ring .exit)) (now (stocks .exit)) ⌝ }
 {
     let sent = message(stamp, plan);
     let bytes = sent.bytes;
@@ -141,7 +164,9 @@ fn carry_out(
             marks,
         };
     }
+    let stock = plan.stock;
     commit(table, h, place, stamp, plan);
+    set_if(stocks, stock);
     let after = append_front(ring, marks, &bytes, len);
     Stepped {
         answer: Answer::Done,

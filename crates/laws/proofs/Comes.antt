@@ -1,44 +1,46 @@
 -- What is known of an entry that comes to something done: it is legal, a record and a reference are left where they are needed, and its plan
 -- keeps what the rules keep. Assumes nothing.
-use Rattle.octets.proofs.Proving.{Bool, List, Option, _&&_, _+_, _<_, _||_, _∙_, _∷_, _≡_, _≤_, ap, arith, drop, drop-drop, eqb, false, false≢true, guard, le-leb, length, length-drop, ltb, ltb-true, none, not, not-false, not-true, or-left, or-right, refl, replicate, some, subst, sym, take, true, ℕ}
-use Rattle.octets.specs.Choice.{_⇒_⨾_, allBelow}
+use Rattle.octets.proofs.Proving.{Bool, List, Option, _&&_, _+_, _<_, _||_, _∙_, _∷_, _≡_, _≢_, _≤_, _⊎_, ap, arith, drop, drop-drop, eqb, false, false≢true, guard, inl, inr, le-leb, length, length-drop, ltb, ltb-true, none, not, not-false, not-true, or-left, or-right, refl, replicate, some, subst, sym, take, true, ℕ}
+use Rattle.octets.specs.Choice.{_⇒_⨾_, allBelow, among}
 use Rattle.octets.specs.Bytes.{part}
 use Rattle.octets.proofs.Laws.{length-part}
 use Rattle.octets.proofs.Below.{both}
 use Rattle.answers.specs.Answer.{isDone, answerNumber}
 use Rattle.answers.proofs.Laws.{is-done}
 use Rattle.wire.specs.Limits.{tokenSize, stampEnd}
-use Rattle.wire.specs.Letters.{space}
+use Rattle.wire.specs.Letters.{space, stockStates}
 use Rattle.wire.specs.Text.{tokenByte, capital, small, digit}
-use Rattle.wire.specs.Layout.{Field, stampAt, tokenAt, firstBadPlace, badPlace, isNone, noBadPlace}
+use Rattle.wire.specs.Layout.{Field, stampAt, tokenAt, stockStateAt, firstBadPlace, badPlace, isNone, noBadPlace}
 use Rattle.wire.specs.Messages.{badAt_⨾_}
 use Rattle.wire.proofs.NoneBad.{legalToken, none-of-both, none-unless, token-bytes}
 use Rattle.table.specs.Table.{header, usedIn, placeOf, orderFrom, orderNamed}
 use Rattle.table.proofs.Soundness.{Sound}
-use Rattle.table.proofs.Finding.{found}
+use Rattle.table.proofs.Finding.{found as found-there}
 use Rattle.tape.specs.Behind.{behindOf, judgedFields}
 use Rattle.tape.specs.Kinds.{kindOf}
-use Rattle.tape.specs.Entries.{wellFormed, badPlaceOf, entryAnswer, namesOrder, stampOf, tokenOf, messageIn, enterOf, replaceOf, cancelOf, modifyOf, executionOf, bookCancelOf, selfMatchOf, priorityOf, systemOf}
+use Rattle.tape.specs.Entries.{wellFormed, badPlaceOf, entryAnswer, namesOrder, stampOf, tokenOf, messageIn, enterOf, replaceOf, cancelOf, modifyOf, executionOf, bookCancelOf, selfMatchOf, priorityOf, systemOf, stockStateOf}
 use Rattle.tape.proofs.Formed.{formed, long-as, judged}
 use Rattle.inbound.specs.Inbound.{enterOrderOf, replaceOrderOf}
-use Rattle.rules.specs.Plan.{refused}
+use Rattle.stocks.specs.Stocks.{standingIn}
+use Rattle.rules.specs.Plan.{noStock, refused}
 use Rattle.rules.specs.Enter.{enterRule}
 use Rattle.rules.specs.Replace.{replaceRule}
-use Rattle.host.specs.Step.{namedPlace, decideBy, decide, noRecordFree, noReferenceLeft, withinLimits, comesTo}
+use Rattle.market.specs.Halt.{haltRule}
+use Rattle.host.specs.Step.{Books, namedPlace, decideBy, decide, noRecordFree, noReferenceLeft, withinLimits, comesTo}
 use Rattle.host.proofs.Offers.{judged-good}
 use Rattle.laws.specs.Blocked.{isBlocked}
-use Rattle.laws.proofs.Types.{Answer, BadField, Done, Full, Malformed, TooEarly, Order, Header, Decision, Kind, Enters, Replaces, Cancels, Modifies, Executes, BookCancels, SelfMatches, Prioritises, TurnsLate, EndsCross, TellsDay, Unknown}
-use Rattle.laws.proofs.Shapes.{ofRules, Keeps, refused-keeps}
-use Rattle.laws.proofs.Rules.{Sane, enter-keeps, replace-keeps, cancel-keeps, modify-keeps, execution-keeps, book-cancel-keeps, self-match-keeps, priority-keeps, late-keeps, cross-done-keeps, system-keeps}
+use Rattle.laws.proofs.Types.{Answer, BadField, Done, Full, Malformed, TooEarly, Order, Header, Decision, Kind, Enters, Replaces, Cancels, Modifies, Executes, BookCancels, SelfMatches, Prioritises, TurnsLate, EndsCross, TellsDay, SetsStock, Unknown, StockStanding}
+use Rattle.laws.proofs.Shapes.{ofRules, Orderly, Keeps, refused-keeps}
+use Rattle.laws.proofs.Rules.{Sane, enter-keeps, replace-keeps, cancel-keeps, modify-keeps, execution-keeps, book-cancel-keeps, self-match-keeps, priority-keeps, late-keeps, cross-done-keeps, system-keeps, halt-orderly}
 use Rattle.laws.proofs.Given.{sane-from, live-there, from-is, holds}
 
 -- ---- the guards that were passed
 
-pub record Passed (t s : List ℕ) : Type 0 where
+pub record Passed (books : Books) (s : List ℕ) : Type 0 where
   pub legal : entryAnswer s ≡ Done
-  pub record-left : noRecordFree t (decide t s .plan) ≡ false
-  pub reference-left : noReferenceLeft t (decide t s .plan) ≡ false
-  pub is : comesTo t s ≡ decide t s
+  pub record-left : noRecordFree (books .table) (decide books s .plan) ≡ false
+  pub reference-left : noReferenceLeft (books .table) (decide books s .plan) ≡ false
+  pub is : comesTo books s ≡ decide books s
 
 -- what an entry comes to, by what was asked on the way
 abbrev comesBy : Answer → Decision → Bool → Bool → Bool → Decision
@@ -57,10 +59,11 @@ neither : (done a b : Bool) → done ≡ true → (done && (a || b)) ≡ false �
 neither true a b d h = (or-left a b h, or-right a b h)
 neither false a b d h = absurd (false≢true d)
 
-pub passed : (t s : List ℕ) → isDone (comesTo t s .answer) ≡ true → Passed t s
+pub passed : (books : Books) (s : List ℕ) → isDone (comesTo books s .answer) ≡ true → Passed books s
 unfolding comesTo withinLimits
-passed t s h =
-    let d = decide t s in
+passed books s h =
+    let t = books .table in
+    let d = decide books s in
     let p = passed-by (entryAnswer s) d (isDone (entryAnswer s)) (ltb (stampOf s) (header t .last)) _ refl h in
     let none = neither (isDone (d .answer)) (noRecordFree t (d .plan)) (noReferenceLeft t (d .plan)) (p .1 .1 .0) (p .1 .0) in
     record { legal = is-done (entryAnswer s) (p .0); record-left = none .0; reference-left = none .1; is = p .1 .1 .1 }
@@ -101,6 +104,11 @@ module _ (s : List ℕ) (legal : entryAnswer s ≡ Done) where
   replaced-legal e =
       sym (token-bytes 23 (part s 23 14)) ∙ field-good (tokenAt 23) _ s (field-good (tokenAt 9) _ s (behind-good Replaces e) .1) .0
 
+  -- an h's state is one of the two
+  pub state-legal : kindOf s ≡ SetsStock → among stockStates (stockStateOf s .state) ≡ true
+  unfolding badPlace stockStateOf
+  state-legal e = sym (none-unless _ 17) ∙ field-good (stockStateAt 17) _ s (behind-good SetsStock e) .0
+
 -- ---- what the rules keep, of the order that the entry names and the token that it may use up
 
 -- a part of the message is a part of the entry, eight bytes on
@@ -119,11 +127,34 @@ blank-new : NewToken blank
 unfolding blank allBelow tokenByte capital small digit
 blank-new = record { long = refl; legal = refl }
 
+-- h or another kind
+pub isHalt : (k : Kind) → (k ≡ SetsStock) ⊎ (k ≢ SetsStock)
+isHalt Enters = inr (λ q. let z : _≡_ {A = ℕ} 0 1 = cc in absurd (omega arith))
+isHalt Replaces = inr (λ q. let z : _≡_ {A = ℕ} 0 1 = cc in absurd (omega arith))
+isHalt Cancels = inr (λ q. let z : _≡_ {A = ℕ} 0 1 = cc in absurd (omega arith))
+isHalt Modifies = inr (λ q. let z : _≡_ {A = ℕ} 0 1 = cc in absurd (omega arith))
+isHalt Executes = inr (λ q. let z : _≡_ {A = ℕ} 0 1 = cc in absurd (omega arith))
+isHalt BookCancels = inr (λ q. let z : _≡_ {A = ℕ} 0 1 = cc in absurd (omega arith))
+isHalt SelfMatches = inr (λ q. let z : _≡_ {A = ℕ} 0 1 = cc in absurd (omega arith))
+isHalt Prioritises = inr (λ q. let z : _≡_ {A = ℕ} 0 1 = cc in absurd (omega arith))
+isHalt TurnsLate = inr (λ q. let z : _≡_ {A = ℕ} 0 1 = cc in absurd (omega arith))
+isHalt EndsCross = inr (λ q. let z : _≡_ {A = ℕ} 0 1 = cc in absurd (omega arith))
+isHalt TellsDay = inr (λ q. let z : _≡_ {A = ℕ} 0 1 = cc in absurd (omega arith))
+isHalt SetsStock = inl refl
+isHalt Unknown = inr (λ q. let z : _≡_ {A = ℕ} 0 1 = cc in absurd (omega arith))
+
 -- of the order that the table t has under that token
 abbrev pub Kept : List ℕ → Order → Decision → Type 0
-Kept t o d = (token : List ℕ) × (NewToken token × Keeps o (orderNamed t token) token d)
+Kept t o d = (token : List ℕ) × (NewToken token × Orderly o (orderNamed t token) token d)
 
-module _ (t s : List ℕ) (ok : Sound t) (legal : entryAnswer s ≡ Done) where
+-- the same of a rule that sets no stock
+abbrev KeptQuiet : List ℕ → Order → Decision → Type 0
+KeptQuiet t o d = (token : List ℕ) × (NewToken token × Keeps o (orderNamed t token) token d)
+
+module _ (books : Books) (s : List ℕ) (ok : Sound (books .table)) (legal : entryAnswer s ≡ Done) where
+  abbrev t : List ℕ
+  t = books .table
+
   abbrev h : Header
   h = header t
 
@@ -138,10 +169,16 @@ module _ (t s : List ℕ) (ok : Sound t) (legal : entryAnswer s ≡ Done) where
   unfolding namedPlace namesOrder
   named-place l = rw (le-leb _ _ l)
 
-  abbrev other : {d : Decision} → Keeps named (orderNamed t blank) blank d → Kept t named d
+  abbrev other : {d : Decision} → Keeps named (orderNamed t blank) blank d → KeptQuiet t named d
   other k = (blank, (blank-new, k))
 
-  enter-kept : kindOf s ≡ Enters → Kept t named (enterRule h named (enterOf s))
+  abbrev entered : StockStanding
+  entered = standingIn (books .stocks) (enterOf s .stock)
+
+  abbrev replaced : StockStanding
+  replaced = standingIn (books .stocks) (named .details .kept .stock)
+
+  enter-kept : kindOf s ≡ Enters → KeptQuiet t named (enterRule h named entered (enterOf s))
   unfolding enterOf enterOrderOf messageIn tokenOf orderNamed
   enter-kept e =
       let n = long-as s (w s legal) refl e in
@@ -151,9 +188,9 @@ module _ (t s : List ℕ) (ok : Sound t) (legal : entryAnswer s ≡ Done) where
         tokenOf s,
         (
           record { long = length-part s 9 14 (omega (arith, n)); legal = entered-legal s legal e },
-          subst (λ (i : ℕ). Keeps named (orderFrom t i) (part s 9 14) (enterRule h named (enterOf s))) at
-              (subst (λ (token : List ℕ). Keeps named named token (enterRule h named (enterOf s))) here
-              (enter-keeps h (enterOf s) named (holds t ok)
+          subst (λ (i : ℕ). Keeps named (orderFrom t i) (part s 9 14) (enterRule h named entered (enterOf s))) at
+              (subst (λ (token : List ℕ). Keeps named named token (enterRule h named entered (enterOf s))) here
+              (enter-keeps h (enterOf s) named entered (holds t ok)
               (record {
                 token = length-part (drop 8 s) 1 14 (omega (arith, l));
                 stock = length-part (drop 8 s) 20 8 (omega (arith, l));
@@ -162,7 +199,7 @@ module _ (t s : List ℕ) (ok : Sound t) (legal : entryAnswer s ≡ Done) where
         ),
       )
 
-  replace-kept : kindOf s ≡ Replaces → Kept t named (replaceRule h named (orderNamed t (replaceOf s .replacement)) (replaceOf s))
+  replace-kept : kindOf s ≡ Replaces → KeptQuiet t named (replaceRule h named (orderNamed t (replaceOf s .replacement)) replaced (replaceOf s))
   unfolding replaceOf replaceOrderOf messageIn tokenOf
   replace-kept e =
       let n = long-as s (w s legal) refl e in
@@ -172,49 +209,75 @@ module _ (t s : List ℕ) (ok : Sound t) (legal : entryAnswer s ≡ Done) where
         replaceOf s .replacement,
         (
           record { long = long; legal = ap legalToken (part-in s 15 14) ∙ replaced-legal s legal e },
-          replace-keeps h named (orderNamed t (replaceOf s .replacement)) (replaceOf s) (holds t ok) sane long
+          replace-keeps h named (orderNamed t (replaceOf s .replacement)) replaced (replaceOf s) (holds t ok) sane long
               (λ alive.
               let there = subst (λ (i : ℕ). i < usedIn t) at (live-there t (namedPlace t s) alive) in
               part-in s 1 14
-              ∙ sym (found t (tokenOf s) there .has)
+              ∙ sym (found-there t (tokenOf s) there .has)
               ∙ ap (λ (q : Order). q .token) (sym (from-is t (placeOf t (tokenOf s)) there))
               ∙ ap (λ (i : ℕ). orderFrom t i .token) (sym at)),
         ),
       )
 
-  by-kind : (k : Kind) → kindOf s ≡ k → Kept t named (decideBy k h named (orderNamed t (replaceOf s .replacement)) s)
-  unfolding decideBy
-  by-kind Enters e = enter-kept e
-  by-kind Replaces e = replace-kept e
-  by-kind Cancels e = other (cancel-keeps named (orderNamed t blank) blank sane (cancelOf s))
-  by-kind Modifies e = other (modify-keeps named (orderNamed t blank) blank sane h (modifyOf s))
-  by-kind Executes e = other (execution-keeps named (orderNamed t blank) blank sane h (executionOf s))
-  by-kind BookCancels e = other (book-cancel-keeps named (orderNamed t blank) blank sane (bookCancelOf s))
-  by-kind SelfMatches e = other (self-match-keeps named (orderNamed t blank) blank sane h (selfMatchOf s))
-  by-kind Prioritises e = other (priority-keeps named (orderNamed t blank) blank sane h (priorityOf s))
-  by-kind TurnsLate e = other (late-keeps named (orderNamed t blank) blank sane h)
-  by-kind EndsCross e = other (cross-done-keeps named (orderNamed t blank) blank sane)
-  by-kind TellsDay e = other (system-keeps h (systemOf s) named (orderNamed t blank) blank)
-  by-kind Unknown e = other (refused-keeps Malformed refl)
+  abbrev found : Order
+  found = orderNamed t (replaceOf s .replacement)
 
-  pub decide-keeps : Kept t named (decide t s)
+  -- every rule but h's
+  by-kind : (k : Kind) → k ≢ SetsStock → kindOf s ≡ k → KeptQuiet t named (decideBy k h named found (books .stocks) s)
+  unfolding decideBy
+  by-kind Enters n e = enter-kept e
+  by-kind Replaces n e = replace-kept e
+  by-kind Cancels n e = other (cancel-keeps named (orderNamed t blank) blank sane (cancelOf s))
+  by-kind Modifies n e = other (modify-keeps named (orderNamed t blank) blank sane h (modifyOf s))
+  by-kind Executes n e = other (execution-keeps named (orderNamed t blank) blank sane h (executionOf s))
+  by-kind BookCancels n e = other (book-cancel-keeps named (orderNamed t blank) blank sane (bookCancelOf s))
+  by-kind SelfMatches n e = other (self-match-keeps named (orderNamed t blank) blank sane h (selfMatchOf s))
+  by-kind Prioritises n e = other (priority-keeps named (orderNamed t blank) blank sane h (priorityOf s))
+  by-kind TurnsLate n e = other (late-keeps named (orderNamed t blank) blank sane h)
+  by-kind EndsCross n e = other (cross-done-keeps named (orderNamed t blank) blank sane)
+  by-kind TellsDay n e = other (system-keeps h (systemOf s) named (orderNamed t blank) blank)
+  by-kind SetsStock n e = absurd (n refl)
+  by-kind Unknown n e = other (refused-keeps Malformed refl)
+
+  halted-kept : Kept t named (decideBy SetsStock h named found (books .stocks) s)
+  unfolding decideBy
+  halted-kept = (blank, (blank-new, halt-orderly (standingIn (books .stocks) (stockStateOf s .symbol)) (stockStateOf s) named (orderNamed t blank) blank))
+
+  kind-keeps : (k : Kind) → kindOf s ≡ k → Kept t named (decideBy k h named found (books .stocks) s)
+  kind-keeps k e = by (isHalt k)
+    where
+      by : (k ≡ SetsStock) ⊎ (k ≢ SetsStock) → Kept t named (decideBy k h named found (books .stocks) s)
+      by (inl q) = subst (λ (x : Kind). Kept t named (decideBy x h named found (books .stocks) s)) (sym q) halted-kept
+      by (inr n) = let r = by-kind k n e in (r .0, (r .1 .0, r .1 .1 .orderly))
+
+  pub decide-keeps : Kept t named (decide books s)
   unfolding decide
-  decide-keeps = by-kind (kindOf s) refl
+  decide-keeps = kind-keeps (kindOf s) refl
+
+  -- what an h comes to
+  pub halt-decided : kindOf s ≡ SetsStock → decide books s ≡ haltRule (standingIn (books .stocks) (stockStateOf s .symbol)) (stockStateOf s)
+  unfolding decide decideBy
+  halt-decided e = ap (λ (k : Kind). decideBy k h named found (books .stocks) s) e
+
+  -- another kind than h sets no stock's state
+  pub decide-quiet : kindOf s ≢ SetsStock → decide books s .plan .stock ≡ noStock
+  unfolding decide
+  decide-quiet n = by-kind (kindOf s) n refl .1 .1 .quiet
 
 -- ---- what an entry comes to is never 'blocked', and 3 only where judging it says so
 
-module _ (t s : List ℕ) (ok : Sound t) where
+module _ (books : Books) (s : List ℕ) (ok : Sound (books .table)) where
   -- a decision of the rules has an answer of theirs
-  decided-own : isDone (entryAnswer s) ≡ true → ofRules (decide t s .answer) ≡ true
-  decided-own legal = decide-keeps t s ok (is-done (entryAnswer s) legal) .1 .1 .own
+  decided-own : isDone (entryAnswer s) ≡ true → ofRules (decide books s .answer) ≡ true
+  decided-own legal = decide-keeps books s ok (is-done (entryAnswer s) legal) .1 .1 .own
 
-  pub unblocked : isBlocked (comesTo t s .answer) ≡ false
+  pub unblocked : isBlocked (comesTo books s .answer) ≡ false
   unfolding comesTo withinLimits refused entryAnswer
   unblocked =
       guard Other (not (isDone (entryAnswer s))) (λ _. judged-unblocked) λ legal.
-      guard Other (ltb (stampOf s) (header t .last)) (λ _. refl) λ _.
-      guard Other (isDone (decide t s .answer) && (noRecordFree t (decide t s .plan) || noReferenceLeft t (decide t s .plan))) (λ _. refl) λ _.
-      not-true _ (both (not (eqb (answerNumber (decide t s .answer)) 3)) _ (decided-own (not-false _ legal)) .1)
+      guard Other (ltb (stampOf s) (header (books .table) .last)) (λ _. refl) λ _.
+      guard Other (isDone (decide books s .answer) && (noRecordFree (books .table) (decide books s .plan) || noReferenceLeft (books .table) (decide books s .plan))) (λ _. refl) λ _.
+      not-true _ (both (not (eqb (answerNumber (decide books s .answer)) 3)) _ (decided-own (not-false _ legal)) .1)
     where
       Other : Decision → Type 0
       Other d = isBlocked (d .answer) ≡ false
@@ -226,19 +289,19 @@ module _ (t s : List ℕ) (ok : Sound t) where
       judged-unblocked : isBlocked (entryAnswer s) ≡ false
       judged-unblocked = guard (λ (a : Answer). isBlocked a ≡ false) (not (wellFormed s)) (λ _. refl) λ _. by-place (badPlaceOf s)
 
-  pub comes-bad : (at : ℕ) → comesTo t s .answer ≡ BadField at → entryAnswer s ≡ BadField at
+  pub comes-bad : (at : ℕ) → comesTo books s .answer ≡ BadField at → entryAnswer s ≡ BadField at
   unfolding comesTo withinLimits refused
   comes-bad at =
       guard Judged (not (isDone (entryAnswer s))) (λ _ e. e) λ legal.
-      guard Judged (ltb (stampOf s) (header t .last)) (λ _ e. let z : _≡_ {A = ℕ} 0 1 = cc in absurd (omega arith)) λ _.
-      guard Judged (isDone (decide t s .answer) && (noRecordFree t (decide t s .plan) || noReferenceLeft t (decide t s .plan)))
+      guard Judged (ltb (stampOf s) (header (books .table) .last)) (λ _ e. let z : _≡_ {A = ℕ} 0 1 = cc in absurd (omega arith)) λ _.
+      guard Judged (isDone (decide books s .answer) && (noRecordFree (books .table) (decide books s .plan) || noReferenceLeft (books .table) (decide books s .plan)))
       (λ _ e. let z : _≡_ {A = ℕ} 0 1 = cc in absurd (omega arith)) λ _ e.
-      let own = both (not (eqb (answerNumber (decide t s .answer)) 3)) _ (decided-own (not-false _ legal)) .0 in
+      let own = both (not (eqb (answerNumber (decide books s .answer)) 3)) _ (decided-own (not-false _ legal)) .0 in
       absurd (false≢true (ap (λ (a : Answer). not (eqb (answerNumber a) 3)) (sym e) ∙ own))
     where
       Judged : Decision → Type 0
       Judged d = d .answer ≡ BadField at → entryAnswer s ≡ BadField at
 
-pub bad-comes : (t s : List ℕ) (at : ℕ) → entryAnswer s ≡ BadField at → comesTo t s .answer ≡ BadField at
+pub bad-comes : (books : Books) (s : List ℕ) (at : ℕ) → entryAnswer s ≡ BadField at → comesTo books s .answer ≡ BadField at
 unfolding comesTo refused isDone
-bad-comes t s at e = rw e
+bad-comes books s at e = rw e

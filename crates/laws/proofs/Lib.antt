@@ -11,3 +11,4 @@ pub mod Sounds
 pub mod Records
 pub mod Sent
 pub mod Steps
+pub mod Halted

@@ -11,7 +11,7 @@ use Rattle.orders.proofs.Standing.{Live, Dead, OrderGood}
 use Rattle.table.specs.Table.{HasRecord, header, orderAt, sound, storeOrder}
 use Rattle.table.proofs.Stored.{order-read-back, other-orders, header-read-back, orders-stay}
 use Rattle.tape.specs.Entries.{stampOf}
-use Rattle.host.specs.Step.{oneIf, storeIf, headerAfter, committed, comesTo}
+use Rattle.host.specs.Step.{Books, oneIf, storeIf, headerAfter, committed, comesTo}
 use Rattle.laws.proofs.Types.{Plan, Order, Header}
 use Rattle.laws.proofs.Shapes.{change-of, addition-of}
 use Rattle.laws.proofs.Clipped.{clip-same, clipped, clippedCounts, stored-clipped, whole-clipped}
@@ -61,42 +61,45 @@ module _ (t : List ℕ) (i : ℕ) (o : Order) (there : HasRecord t i) (fit : Fit
 
 -- ---- a plan written down
 
-module _ (t s : List ℕ) (ok : sound t ≡ true) (done : isDone (comesTo t s .answer) ≡ true) where
+module _ (books : Books) (s : List ℕ) (ok : sound (books .table) ≡ true) (done : isDone (comesTo books s .answer) ≡ true) where
+  abbrev t : List ℕ
+  t = books .table
+
   abbrev plan : Plan
-  plan = p t s ok done
+  plan = p books s ok done
 
   abbrev mid : List ℕ
-  mid = one t s ok done
+  mid = one books s ok done
 
   abbrev end : List ℕ
-  end = two t s ok done
+  end = two books s ok done
 
   abbrev used : ℕ
   used = header t .used
 
   abbrev at : ℕ
-  at = place t s ok done
+  at = place books s ok done
 
   -- the table afterwards
   abbrev pub left : List ℕ
   left = committed t at (stampOf s) plan
 
   long : headerSize ≤ length end
-  long = omega (arith, kept₂ t s ok done .long, S t s ok done .size .long)
+  long = omega (arith, kept₂ books s ok done .long, S books s ok done .size .long)
 
   pub left-used : header left .used ≡ used + oneIf (isUsed (plan .added))
   unfolding committed headerAfter
-  left-used = ap (λ (q : Header). q .used) (header-read-back end (after t s ok done) long (whole t s ok done))
+  left-used = ap (λ (q : Header). q .used) (header-read-back end (after books s ok done) long (whole books s ok done))
 
   left-faces : (i : ℕ) → faceAt left i ≡ faceAt end i
   unfolding committed headerAfter
-  left-faces i = ap face (orders-stay end (after t s ok done) long (whole t s ok done) i)
+  left-faces i = ap face (orders-stay end (after books s ok done) long (whole books s ok done) i)
 
   -- the named order's record is the only one that the first store touches
   pub changed-face : isUsed (plan .changed) ≡ true → faceAt mid at ≡ face (plan .changed)
   unfolding storeIf
   changed-face u =
-      let f = changed-fit t s ok done (change-of (K t s ok done .1 .1 .shape)) u in
+      let f = changed-fit books s ok done (change-of (K books s ok done .1 .1 .shape)) u in
       rw u (stored-face t at (plan .changed) (f .1) (f .0))
 
   pub unchanged-face : (i : ℕ) → i ≢ at → faceAt mid i ≡ faceAt t i
@@ -105,7 +108,7 @@ module _ (t s : List ℕ) (ok : sound t ≡ true) (done : isDone (comesTo t s .a
     where
       by : (b : Bool) → isUsed (plan .changed) ≡ b → faceAt mid i ≡ faceAt t i
       by true u =
-          let f = changed-fit t s ok done (change-of (K t s ok done .1 .1 .shape)) u in
+          let f = changed-fit books s ok done (change-of (K books s ok done .1 .1 .shape)) u in
           rw u (other-faces t at (plan .changed) (f .1) (f .0) i apart)
       by false u = rw u
 
@@ -115,16 +118,16 @@ module _ (t s : List ℕ) (ok : sound t ≡ true) (done : isDone (comesTo t s .a
 
   -- and the one behind the used ones the only one that the second touches
   fit : isUsed (plan .added) ≡ true → Fit (plan .added)
-  fit u = added-fit (plan .added) (K t s ok done .1 .0) (addition-of (K t s ok done .1 .1 .shape)) u
+  fit u = added-fit (plan .added) (K books s ok done .1 .0) (addition-of (K books s ok done .1 .1 .shape)) u
 
   pub added-face : isUsed (plan .added) ≡ true → faceAt left used ≡ face (plan .added)
   unfolding storeIf
-  added-face u = left-faces used ∙ rw u (stored-face mid used (plan .added) (there-in-one t s ok done u) (fit u))
+  added-face u = left-faces used ∙ rw u (stored-face mid used (plan .added) (there-in-one books s ok done u) (fit u))
 
   pub earlier-face : (i : ℕ) → i < used → faceAt left i ≡ faceAt mid i
   unfolding storeIf
   earlier-face i l = left-faces i ∙ by (isUsed (plan .added)) refl
     where
       by : (b : Bool) → isUsed (plan .added) ≡ b → faceAt end i ≡ faceAt mid i
-      by true u = rw u (other-faces mid used (plan .added) (there-in-one t s ok done u) (fit u) i (λ e. omega (arith, e)))
+      by true u = rw u (other-faces mid used (plan .added) (there-in-one books s ok done u) (fit u) i (λ e. omega (arith, e)))
       by false u = rw u

@@ -5,10 +5,10 @@ use Rattle.octets.specs.Bytes.{zeros}
 use Rattle.octets.specs.Choice.{pick, among}
 use Rattle.octets.proofs.Laws.{length-part}
 use Rattle.answers.specs.Answer.{isDone}
-use Rattle.wire.specs.Letters.{closed, firmNotListed, invalidStock, notInThisCross, invalidDisplay, invalidPrice, aboveThreshold, invalidMinimum, userRequested, crosses, noCross, startOfDay, endOfDay}
+use Rattle.wire.specs.Letters.{closed, firmNotListed, invalidStock, stockHalted, notInThisCross, invalidDisplay, invalidPrice, aboveThreshold, invalidMinimum, userRequested, crosses, noCross, startOfDay, endOfDay}
 use Rattle.wire.specs.Shares.{total, _equals_}
 use Rattle.wire.specs.Limits.{tokenSize}
-use Rattle.wire.specs.Text.{shaped as shapely}
+use Rattle.stocks.specs.Standing.{isListed as isListedStock, isHalted}
 use Rattle.header.specs.Limits.{dayBefore, dayOpen, dayClosed, highestThreshold}
 use Rattle.header.specs.Header.{isOpenDay}
 use Rattle.header.specs.Firms.{firmAt, isBlank, isListed, meantFirm}
@@ -18,7 +18,7 @@ use Rattle.orders.specs.Order.{isLive, isUsed, _is_, withFlags, withSide, withD
 use Rattle.orders.specs.declared.flags.Flag.the-variants.{Late, Pending, RejectSent}
 use Rattle.orders.proofs.Standing.{Live}
 use Rattle.rules.specs.Plan.{allowed}
-use Rattle.rules.specs.Enter.{badDisplay, badPrice, badShares, badMinimum, faultOfNumbers, enterFault, enteredKept, enteredOrder, enterOutcome, enterRule}
+use Rattle.rules.specs.Enter.{badStock, badDisplay, badPrice, badShares, badMinimum, faultOfNumbers, enterFault, enteredKept, enteredOrder, enterOutcome, enterRule}
 use Rattle.rules.specs.Replace.{badDetails, replacementOrder, canceledWhole, replaceOpen, replaceRule}
 use Rattle.rules.specs.Cancel.{cancelIgnored, decrement, canceledOrder, lateCancel, cancelRule}
 use Rattle.rules.specs.Modify.{modifyIgnored, modifiedOrder, modifyRule}
@@ -27,10 +27,11 @@ use Rattle.market.specs.Taken.{sharesRight, executionRule, bookCancelRule, self
 use Rattle.market.specs.Priority.{prioritisedOrder, priorityRule}
 use Rattle.market.specs.Cross.{lateRule, crossDone, crossDoneRule}
 use Rattle.market.specs.Day.{systemRule}
+use Rattle.market.specs.Halt.{haltRule}
 use Rattle.market.proofs.Room.{passed, room}
-use Rattle.laws.proofs.Types.{Answer, Ignored, WrongMoment, Order, Header, Decision, Fault, EnterOrder, ReplaceOrder, CancelOrder, ModifyOrder, Execution, BookCancel, SelfMatch, Priority, System, Canceled, Modified, Replaced, Executed, AiqCancelled, PriorityUpdate}
+use Rattle.laws.proofs.Types.{Answer, Ignored, NotLive, WrongMoment, Order, Header, Decision, Fault, EnterOrder, ReplaceOrder, CancelOrder, ModifyOrder, Execution, BookCancel, SelfMatch, Priority, System, StockState, StockStanding, Canceled, Modified, Replaced, Executed, AiqCancelled, PriorityUpdate}
 use Rattle.laws.proofs.Tests.{cancel-live, cancel-smaller, modify-live, modify-above, modify-within, fair-shares, good-shares, new-open}
-use Rattle.laws.proofs.Shapes.{Shaped, Changed, Born, ofRules, Keeps, refused-keeps, beginning-keeps, changing-keeps, renumbering-keeps, accepting-keeps, rejecting-keeps, replacing-keeps, uncounted, recounted, ended, ended-dead}
+use Rattle.laws.proofs.Shapes.{Shaped, Changed, Born, ofRules, Orderly, Keeps, setting-orderly, refused-keeps, beginning-keeps, changing-keeps, renumbering-keeps, accepting-keeps, rejecting-keeps, replacing-keeps, uncounted, recounted, ended, ended-dead}
 
 -- All that the rules ask of an order: of live ones only, because no rule changes or counts with another
 pub record Sane (o : Order) : Type 0 where
@@ -59,7 +60,7 @@ meant-length h firm holds four = by-blank (isBlank firm)
     by-blank true = length-part (h .firms) 0 4 (omega (arith, holds .firms))
     by-blank false = four
 
-module _ (h : Header) (e : EnterOrder) (found : Order) (holds : HeaderHolds h) (texts : EnterShaped e) where
+module _ (h : Header) (e : EnterOrder) (found : Order) (stock : StockStanding) (holds : HeaderHolds h) (texts : EnterShaped e) where
   abbrev firm : List ℕ
   firm = meantFirm h (e .firm)
 
@@ -78,13 +79,14 @@ module _ (h : Header) (e : EnterOrder) (found : Order) (holds : HeaderHolds h) (
   abbrev WithFault : Fault → Type 0
   WithFault f = Keeps found found (e .token) (enterOutcome h firm e f)
 
-  pub enter-keeps : Keeps found found (e .token) (enterRule h found e)
+  pub enter-keeps : Keeps found found (e .token) (enterRule h found stock e)
   unfolding enterRule enterOutcome enterFault faultOfNumbers
   enter-keeps =
       guard (Keeps found found (e .token)) (isUsed found) (λ _. refused-keeps Ignored refl) λ free.
       guard WithFault (not (isOpenDay h)) (λ _. rejecting-keeps free closed) λ _.
       guard WithFault (not (isListed h firm)) (λ _. rejecting-keeps free firmNotListed) λ _.
-      guard WithFault (not (shapely (e .stock))) (λ _. rejecting-keeps free invalidStock) λ _.
+      guard WithFault (badStock (e .stock) stock) (λ _. rejecting-keeps free invalidStock) λ _.
+      guard WithFault (isHalted stock) (λ _. rejecting-keeps free stockHalted) λ _.
       guard WithFault (not (among crosses (e .cross))) (λ _. rejecting-keeps free notInThisCross) λ _.
       guard WithFault (badDisplay (e .display) (e .cross)) (λ _. rejecting-keeps free invalidDisplay) λ _.
       guard WithFault (badPrice (e .price) (e .cross)) (λ _. rejecting-keeps free invalidPrice) λ _.
@@ -207,9 +209,16 @@ system-keeps h e o found t =
     guard (Keeps o found t) (eqb (e .event) endOfDay && eqb (h .day) dayOpen) (λ _. beginning-keeps dayClosed (e .event) (omega arith)) λ _.
     refused-keeps WrongMoment refl
 
+-- ---- a stock
+
+pub halt-orderly : (stock : StockStanding) (e : StockState) (o found : Order) (t : List ℕ) → Orderly o found t (haltRule stock e)
+unfolding haltRule
+halt-orderly stock e o found t =
+    guard (Orderly o found t) (not (isListedStock stock)) (λ _. refused-keeps NotLive refl .orderly) λ _. setting-orderly e
+
 -- ---- an order and the one that replaces it
 
-module _ (h : Header) (old found : Order) (e : ReplaceOrder) (holds : HeaderHolds h) (sane : Sane old) (long : length (e .replacement) ≡ tokenSize)
+module _ (h : Header) (old found : Order) (stock : StockStanding) (e : ReplaceOrder) (holds : HeaderHolds h) (sane : Sane old) (long : length (e .replacement) ≡ tokenSize)
     (names : isLive old ≡ true → e .existing ≡ old .token)
   where
     replacement-born : isLive old ≡ true → badDetails h old e ≡ false
@@ -228,7 +237,7 @@ module _ (h : Header) (old found : Order) (e : ReplaceOrder) (holds : HeaderHold
     abbrev pub Swapped : Decision → Type 0
     Swapped = Keeps old found (e .replacement)
 
-    pub replace-keeps : Swapped (replaceRule h old found e)
+    pub replace-keeps : Swapped (replaceRule h old found stock e)
     unfolding replaceRule replaceOpen canceledWhole withFlags
     replace-keeps =
         guard Swapped (not (isLive old) || isUsed found) (λ _. refused-keeps Ignored refl) λ heard.
@@ -237,5 +246,6 @@ module _ (h : Header) (old found : Order) (e : ReplaceOrder) (holds : HeaderHold
         let end = ended old alive (sane .lives alive) (sane .shaped) (old .flags) in
         guard Swapped (not (isOpenDay h)) (λ _. rejecting-keeps free closed) λ _.
         guard Swapped (old is Late) (λ _. rejecting-keeps free notInThisCross) λ _.
+        guard Swapped (isHalted stock) (λ _. rejecting-keeps free stockHalted) λ _.
         guard Swapped (badDetails h old e) (λ _. changing-keeps tt (end (Canceled (openShares (old .shares)) userRequested) refl)) λ good.
         replacing-keeps free (end Replaced refl) (ended-dead old alive (sane .lives alive) (sane .shaped) (old .flags)) (replacement-born alive good)

@@ -19,7 +19,7 @@ use Rattle.outbox.specs.Limits.{shortestRing}
 use Rattle.table.specs.Table.{sound}
 use Rattle.tape.specs.Entries.{stampOf}
 use Rattle.notices.specs.Notices.{statedOrder, acceptedNotice, replacedNotice, canceledNotice, selfMatchNotice, executedNotice, rejectedNotice, priorityNotice, modifiedNotice, noticeBytes, message}
-use Rattle.host.specs.Step.{comesTo}
+use Rattle.host.specs.Step.{Books, comesTo}
 use Rattle.laws.specs.Messages.{AtMostOne, silent, told}
 use Rattle.laws.proofs.Types.{Order, Plan, Decision, Notice, Accepted, AiqCancelled, CancelPending, CancelReject, Canceled, Executed, Modified, PriorityUpdate, Rejected, Replaced, Silent, SystemEvent}
 use Rattle.laws.proofs.Shapes.{Shaped, Addition, nothing, rejected, born, Subject, ofNone, ofNamed, ofNew, ofBoth, subject, Older, Shape, nobody, changes, accepts, rejects, replaces, addition-of}
@@ -114,20 +114,23 @@ tells stands used p (accepts f c b e) = rw e (rw (b .token) used)
 tells stands used p (rejects f c a reason e) = rw (e, a) used
 tells stands used p (replaces f c end b e) = rw e (rw (b .token) used, rw (b .previous) (stands (c .alive)))
 
-module _ (t s : List ℕ) (ok : sound t ≡ true) (done : isDone (comesTo t s .answer) ≡ true) where
-  pub sends : AtMostOne (message (stampOf s) (comesTo t s .plan))
+module _ (books : Books) (s : List ℕ) (ok : sound (books .table) ≡ true) (done : isDone (comesTo books s .answer) ≡ true) where
+  abbrev t : List ℕ
+  t = books .table
+
+  pub sends : AtMostOne (message (stampOf s) (comesTo books s .plan))
   unfolding message
   sends =
-      let k = K t s ok done in
-      let plan = p t s ok done in
-      let S = S t s ok done in
-      subst (λ (d : Decision). AtMostOne (message (stampOf s) (d .plan))) (sym (P t s ok done .is))
-      (notice-one (stampOf s) (plan .changed) (plan .added) (plan .notice) (stamp-legal s (P t s ok done .legal))
+      let k = K books s ok done in
+      let plan = p books s ok done in
+      let S = S books s ok done in
+      subst (λ (d : Decision). AtMostOne (message (stampOf s) (d .plan))) (sym (P books s ok done .is))
+      (notice-one (stampOf s) (plan .changed) (plan .added) (plan .notice) (stamp-legal s (P books s ok done .legal))
       (added-shaped (plan .added) (k .1 .0 .long) (addition-of (k .1 .1 .shape)))
-      (tells (λ alive. may-name _ (sane-from t S (place t s ok done) .shaped .token) (token-legal t S (place t s ok done) alive))
+      (tells (λ alive. may-name _ (sane-from t S (place books s ok done) .shaped .token) (token-legal t S (place books s ok done) alive))
       (may-name (k .0) (k .1 .0 .long) (k .1 .0 .legal)) plan (k .1 .1 .shape)))
 
-  pub short : length (message (stampOf s) (comesTo t s .plan)) ≤ shortestRing
+  pub short : length (message (stampOf s) (comesTo books s .plan)) ≤ shortestRing
   short = at-most sends
     where
       at-most : {m : List ℕ} → AtMostOne m → length m ≤ shortestRing

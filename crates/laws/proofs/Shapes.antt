@@ -11,9 +11,9 @@ use Rattle.orders.specs.Counts.{gone, openShares, cut, withLiable}
 use Rattle.orders.specs.Order.{isLive, isUsed, noOrder, rejectedOrder, deadIfSpent, withFlags, withSide, killed}
 use Rattle.orders.specs.declared.counts.Counts.{Counts}
 use Rattle.orders.proofs.Standing.{Live}
-use Rattle.rules.specs.Plan.{refused, changing, renumbering, accepting, replacing as replacingBy, rejecting, beginning}
+use Rattle.rules.specs.Plan.{noStock, refused, changing, renumbering, accepting, replacing as replacingBy, rejecting, beginning, setting}
 use Rattle.laws.specs.Blocked.{isBlocked}
-use Rattle.laws.proofs.Types.{Answer, Order, Plan, Decision, Begins, Nothing, Day, Notice, Silent, SystemEvent, Accepted, Replaced, Canceled, AiqCancelled, Executed, Rejected, CancelPending, CancelReject, PriorityUpdate, Modified}
+use Rattle.laws.proofs.Types.{Answer, Order, Plan, StockState, Decision, Begins, Nothing, Day, Notice, Silent, SystemEvent, Accepted, Replaced, Canceled, AiqCancelled, Executed, Rejected, CancelPending, CancelReject, PriorityUpdate, Modified}
 use Rattle.laws.proofs.Standing.{Standing, live-state, counted}
 
 -- ---- what a plan does to the order that the entry names, and what it adds
@@ -110,40 +110,49 @@ abbrev pub ofRules : Answer → Bool
 ofRules a = not (eqb (answerNumber a) 3) && not (isBlocked a)
 
 -- what every decision of the rules keeps
-pub record Keeps (named found : Order) (token : List ℕ) (d : Decision) : Type 0 where
+pub record Orderly (named found : Order) (token : List ℕ) (d : Decision) : Type 0 where
   pub shape : Shape named found token (d .plan)
   pub begins : Begun (d .plan .begins)
   pub own : ofRules (d .answer) ≡ true
 
+-- and every one but h's: no state of a stock is set
+pub record Keeps (named found : Order) (token : List ℕ) (d : Decision) : Type 0 where
+  pub orderly : Orderly named found token d
+  pub quiet : d .plan .stock ≡ noStock
+
 module _ {named found : Order} {token : List ℕ} where
   pub refused-keeps : (answer : Answer) → ofRules answer ≡ true → Keeps named found token (refused answer)
   unfolding refused
-  refused-keeps answer own = record { shape = nobody refl refl refl; begins = tt; own = own }
+  refused-keeps answer own = record { orderly = record { shape = nobody refl refl refl; begins = tt; own = own }; quiet = refl }
 
   pub beginning-keeps : (day event : ℕ) → day ≤ dayClosed → Keeps named found token (beginning day event)
   unfolding beginning
-  beginning-keeps day event known = record { shape = nobody refl refl refl; begins = known; own = refl }
+  beginning-keeps day event known = record { orderly = record { shape = nobody refl refl refl; begins = known; own = refl }; quiet = refl }
 
   pub changing-keeps : {o : Order} {notice : Notice} → Older (subject notice) → Changed named notice o → Keeps named found token (changing o notice)
   unfolding changing
-  changing-keeps of h = record { shape = changes h refl of; begins = tt; own = refl }
+  changing-keeps of h = record { orderly = record { shape = changes h refl of; begins = tt; own = refl }; quiet = refl }
 
   pub renumbering-keeps : {o : Order} → Changed named PriorityUpdate o → Keeps named found token (renumbering o PriorityUpdate)
   unfolding renumbering
-  renumbering-keeps h = record { shape = changes h refl tt; begins = tt; own = refl }
+  renumbering-keeps h = record { orderly = record { shape = changes h refl tt; begins = tt; own = refl }; quiet = refl }
 
   pub accepting-keeps : {new : Order} → isUsed found ≡ false → Born token 0 (zeros tokenSize) new → Keeps named found token (accepting new)
   unfolding accepting
-  accepting-keeps free h = record { shape = accepts free refl h refl; begins = tt; own = refl }
+  accepting-keeps free h = record { orderly = record { shape = accepts free refl h refl; begins = tt; own = refl }; quiet = refl }
 
   pub rejecting-keeps : isUsed found ≡ false → (reason : ℕ) → Keeps named found token (rejecting token reason)
   unfolding rejecting
-  rejecting-keeps free reason = record { shape = rejects free refl refl reason refl; begins = tt; own = refl }
+  rejecting-keeps free reason = record { orderly = record { shape = rejects free refl refl reason refl; begins = tt; own = refl }; quiet = refl }
 
   pub replacing-keeps : {old new : Order} → isUsed found ≡ false → Changed named Replaced old → old .state ≡ dead
       → Born token (named .shares .executed .0) (named .token) new → Keeps named found token (replacingBy old new)
   unfolding replacingBy
-  replacing-keeps free h end born = record { shape = replaces free h end born refl; begins = tt; own = refl }
+  replacing-keeps free h end born = record { orderly = record { shape = replaces free h end born refl; begins = tt; own = refl }; quiet = refl }
+
+  pub setting-orderly : (e : StockState) → Orderly named found token (setting e)
+  unfolding setting
+  setting-orderly e = record { shape = nobody refl refl refl; begins = tt; own = refl }
 
 -- ---- the two orders of a plan, seen one by one
 

@@ -18,7 +18,7 @@ use Rattle.table.proofs.Soundness.{Sound, of-sound}
 use Rattle.table.proofs.Stored.{order-length, header-stays}
 use Rattle.table.proofs.Keeps.{order-keeps, records-after, same-records, same-size, header-keeps}
 use Rattle.tape.specs.Entries.{stampOf}
-use Rattle.host.specs.Step.{oneIf, namedPlace, storeIf, dayAfter, headerAfter, committed, noRecordFree, noReferenceLeft, decide, comesTo}
+use Rattle.host.specs.Step.{Books, oneIf, namedPlace, storeIf, dayAfter, headerAfter, committed, noRecordFree, noReferenceLeft, decide, comesTo}
 use Rattle.laws.specs.Records.{Paper, EveryRecord}
 use Rattle.laws.proofs.Types.{Decision, Plan, Order, Header, Begins, Nothing, Day}
 use Rattle.laws.proofs.Standing.{Standing}
@@ -72,24 +72,27 @@ added-fit new n (born x before b) u =
 
 -- ---- a plan written down
 
-module _ (t s : List ℕ) (ok : sound t ≡ true) (done : isDone (comesTo t s .answer) ≡ true) where
+module _ (books : Books) (s : List ℕ) (ok : sound (books .table) ≡ true) (done : isDone (comesTo books s .answer) ≡ true) where
+  abbrev t : List ℕ
+  t = books .table
+
   pub S : Sound t
   S = of-sound t ok
 
-  pub P : Passed t s
-  P = passed t s done
+  pub P : Passed books s
+  P = passed books s done
 
   abbrev pub p : Plan
-  p = decide t s .plan
+  p = decide books s .plan
 
   abbrev pub place : ℕ
   place = namedPlace t s
 
   abbrev pub o : Order
-  o = named t s S (P .legal)
+  o = named books s S (P .legal)
 
-  pub K : Kept t o (decide t s)
-  K = decide-keeps t s S (P .legal)
+  pub K : Kept t o (decide books s)
+  K = decide-keeps books s S (P .legal)
 
   pub changed-fit : Change o (p .notice) (p .changed) → isUsed (p .changed) ≡ true → Fit (p .changed) × HasRecord t place
   changed-fit (unchanged e) u = absurd (false≢true (sym none-unused ∙ ap isUsed (sym e) ∙ u))
@@ -234,7 +237,7 @@ module _ (t s : List ℕ) (ok : sound t ≡ true) (done : isDone (comesTo t s .a
       let long = kept₂ .long in
       header-keeps after whole two (same-size t two long (S .size)) (rw (same-records t two long) good) (kept₂ .records)
 
-  pub keeps : sound (committed t place (stampOf s) (comesTo t s .plan)) ≡ true
+  pub keeps : sound (committed t place (stampOf s) (comesTo books s .plan)) ≡ true
   keeps = ap (λ (d : Decision). sound (committed t place (stampOf s) (d .plan))) (P .is) ∙ written-sound
 
 -- ---- and every record of a sound table is as the paper says

@@ -1,4 +1,6 @@
 pub mod Blocked
+pub mod Ready
 pub mod Places
 pub mod Messages
 pub mod Records
+pub mod Halts

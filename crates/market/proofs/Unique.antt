@@ -8,6 +8,9 @@ cross-unique = (λ κs a. settled) also (λ κs a. settled)
 pub day-unique : Settled market.day.system.Reads.Post
 day-unique κs a = settled
 
+pub halt-unique : Settled market.halt.halt.Reads.Post
+halt-unique κs a = settled
+
 pub priority-unique : Settled market.priority.priority.Reads.Post
 priority-unique κs a = settled
 

@@ -4,3 +4,4 @@ pub mod Taken
 pub mod Priority
 pub mod Cross
 pub mod Day
+pub mod Halt

@@ -7,6 +7,8 @@ pub use Rattle.tape.specs.declared.entry.BookCancel.{BookCancel}
 pub use Rattle.tape.specs.declared.entry.SelfMatch.{SelfMatch}
 pub use Rattle.tape.specs.declared.entry.Priority.{Priority}
 pub use Rattle.tape.specs.declared.entry.System.{System}
+pub use Rattle.tape.specs.declared.entry.StockState.{StockState}
+pub use Rattle.stocks.specs.declared.standing.Standing.{Standing}
 pub use Rattle.header.specs.declared.Header.{Header}
 pub use Rattle.orders.specs.declared.order.Order.{Order}
 pub use Rattle.rules.specs.declared.plan.Decision.{Decision}

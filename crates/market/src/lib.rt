@@ -2,5 +2,6 @@
 pub mod cross;
 pub mod day;
 mod guards;
+pub mod halt;
 pub mod priority;
 pub mod taken;

@@ -10,14 +10,14 @@ use Rattle.port.proofs as port
 pub fresh-unique : SettledBoth port.pq_fresh.Reads.Post
 fresh-unique κs a = settled-both
 
--- the number and the table, the ring and the marks behind two pointers, and the place behind the last
-pub step-unique : (κs : Lfts 6) (a : _) → Settles {X = ((ℕ × List ℕ) × (List ℕ × Marks)) × ℕ} (port.pq_step.Reads.Post κs a) (λ z e. (((z, now (e .0)), (now (e .1 .0), marks (now (e .1 .1 .0)) (now (e .1 .1 .1 .0)))), now (e .1 .1 .1 .1 .1 .0)))
+-- the number and the table, the ring and the marks behind two pointers, the place behind the last, and the list
+pub step-unique : (κs : Lfts 7) (a : _) → Settles {X = ((ℕ × List ℕ) × (List ℕ × Marks)) × (ℕ × List ℕ)} (port.pq_step.Reads.Post κs a) (λ z e. (((z, now (e .0)), (now (e .1 .0), marks (now (e .1 .1 .0)) (now (e .1 .1 .1 .0)))), (now (e .1 .1 .1 .1 .1 .1 .0), now (e .1 .1 .1 .1 .0))))
 step-unique κs a z z′ e e′ p p′ =
-    ap₂ (λ (l : (ℕ × List ℕ) × (List ℕ × Marks)) (r : ℕ). (l, r))
+    ap₂ (λ (l : (ℕ × List ℕ) × (List ℕ × Marks)) (r : ℕ × List ℕ). (l, r))
     (ap₂ (λ (l : ℕ × List ℕ) (r : List ℕ × Marks). (l, r))
     (one-pair (p .numbered, p .tabled) (p′ .numbered, p′ .tabled))
     (one-pair (p .ringed, p .marked) (p′ .ringed, p′ .marked)))
-    (one-result (p .placed) (p′ .placed))
+    (one-pair (p .placed, p .listed) (p′ .placed, p′ .listed))
 
 pub numbers-unique : Settled port.pq_read.Reads.Post and Settled port.pq_entry_length.Reads.Post and Settled port.pq_message_length.Reads.Post
 numbers-unique = (λ κs a. settled) also (λ κs a. settled) also (λ κs a. settled)

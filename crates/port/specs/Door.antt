@@ -41,10 +41,12 @@ firmsGiven row =
 unfoldable pub settingsGiven : ℕ → List ℕ → Settings
 settingsGiven threshold row = record { threshold = total threshold; firms = firmsGiven row; count = countGiven row }
 
--- what a step leaves a C caller with: the number of the answer and its place (Ask 1), and the table, the ring and the marks as they are then
-pub record Left (o : Outcome) (number place : ℕ) (table ring : List ℕ) (after : Marks) : Type 0 where
+-- what a step leaves a C caller with: the number of the answer and its place (Ask 1), and the table, the ring, the marks and the list (Ask 2) as
+-- they are then
+pub record Left (o : Outcome) (number place : ℕ) (table ring : List ℕ) (after : Marks) (stocks : List ℕ) : Type 0 where
   pub numbered : number ≡ answerNumber (o .answer)
   pub placed : place ≡ answerPlace (o .answer)
-  pub tabled : table ≡ o .world .table
+  pub tabled : table ≡ o .world .books .table
   pub ringed : ring ≡ o .world .ring
   pub marked : after ≡ o .world .marks
+  pub listed : stocks ≡ o .world .books .stocks

@@ -41,10 +41,11 @@ pub extern "C" fn pq_step(
     ring: &mut [u8],
     at: &mut usize,
     held: &mut usize,
+    stocks: &mut [u8],
     entry: &[u8],
     place: &mut usize,
 ) -> u8
-    ensures { λ r. ⌜ Left (step (world (now (table .entry)) (now (ring .entry)) (marks (now (at .entry)) (now (held .entry)))) (now (entry .entry))) r (now (place .exit)) (now (table .exit)) (now (ring .exit)) (marks (now (at .exit)) (now (held .exit))) ⌝ }
+    ensures { λ r. ⌜ Left (step (world (now (table .entry)) (now (ring .entry)) (marks (now (at .entry)) (now (held .entry))) (now (stocks .entry))) (now (entry .entry))) r (now (place .exit)) (now (table .exit)) (now (ring .exit)) (marks (now (at .exit)) (now (held .exit))) (now (stocks .exit)) ⌝ }
 {
     let stepped = step(
         table,
@@ -53,6 +54,7 @@ pub extern "C" fn pq_step(
             at: *at,
             held: *held,
         },
+        stocks,
         entry,
     );
     let after = stepped.marks;

@@ -1,6 +1,6 @@
 // Plays the tape on standard input through a fresh host and prints what each entry came to.
 //
-// Without a word it is the paper's program: a ring of 4,096 bytes that is emptied after each entry, and 800 records. By `ring N`, `release K` and
+// Without a word it is the paper's program: a ring of 4,096 bytes that is emptied after each entry, 800 records, and one stock, ABC, which trades. By `ring N`, `release K` and
 // `records N` it has another ring, a reader that takes K bytes between two offers, and another table. An entry that is blocked prints with answer 9
 // and is offered again under its number until it is not. By `outbox`, as the first word, the ring is drawn under each line as the offer left it, and
 // at the end once for each time that the reader takes from it.
@@ -104,12 +104,13 @@ fn show(
 fn play_entry(
     table: &mut [u8],
     ring: &mut [u8],
+    stocks: &mut [u8],
     entry: &[u8],
     reader: Reader,
     tally: Tally,
 ) -> Tally {
     let before = tally.marks;
-    let stepped = step(table, ring, before, entry);
+    let stepped = step(table, ring, before, stocks, entry);
     let after = stepped.marks;
     let given = stepped.answer;
     let answer = number(given);
@@ -156,7 +157,14 @@ fn asked(tape: &mut [u8], feed: Feed, blocked: bool) -> Feed
 }
 
 // One offer, where there is an entry. What is no whole entry is the last, and the host answers 2 to it.
-fn turn(table: &mut [u8], ring: &mut [u8], tape: &mut [u8], reader: Reader, run: Run) -> Run
+fn turn(
+    table: &mut [u8],
+    ring: &mut [u8],
+    stocks: &mut [u8],
+    tape: &mut [u8],
+    reader: Reader,
+    run: Run,
+) -> Run
     ensures { λ r. ⌜ r .feed .left ≤ run .feed .left - 1 ⌝ }
 {
     let tally = run.tally;
@@ -166,7 +174,7 @@ fn turn(table: &mut [u8], ring: &mut [u8], tape: &mut [u8], reader: Reader, run:
     if entry.len() == 0 {
         return Run { feed, tally };
     }
-    let tally = play_entry(table, ring, entry, reader, tally);
+    let tally = play_entry(table, ring, stocks, entry, reader, tally);
     if tally.printed {
         return Run { feed, tally };
     }
@@ -176,21 +184,28 @@ fn turn(table: &mut [u8], ring: &mut [u8], tape: &mut [u8], reader: Reader, run:
     }
 }
 
-fn play(table: &mut [u8], ring: &mut [u8], tape: &mut [u8], reader: Reader) -> Tally {
+fn play(
+    table: &mut [u8],
+    ring: &mut [u8],
+    stocks: &mut [u8],
+    tape: &mut [u8],
+    reader: Reader,
+) -> Tally {
     let mut run = begun();
     while 0 < run.feed.left {
-        run = turn(table, ring, tape, reader, run);
+        run = turn(table, ring, stocks, tape, reader, run);
     }
     run.tally
 }
 
-// A fresh day, the tape, and what came of it.
+// A fresh day with its list of stocks, the tape, and what came of it.
 fn play_day(table: &mut [u8], ring: &mut [u8], tape: &mut [u8], reader: Reader)
     requires { ⌜ 1 ≤ reader .takes ⌝ }
 {
+    let mut stocks = desk::STOCKS;
     desk::open(table);
     io::write_all(STDOUT_FILENO, &FIRST_LINE);
-    let tally = play(table, ring, tape, reader);
+    let tally = play(table, ring, &mut stocks, tape, reader);
     finish(ring.len(), tally, reader);
 }
 

@@ -5,7 +5,7 @@ use mathlib.Core.List.{List}
 use lib.Dec.{ltb, eqb}
 use Rattle.octets.specs.Choice.{pick, firstOf_, _⇒_⨾_, among}
 use Rattle.octets.specs.Bytes.{zeros}
-use Rattle.wire.specs.Letters.{live, closed, firmNotListed, invalidStock, notInThisCross, invalidDisplay, invalidPrice, aboveThreshold, invalidMinimum, displays, crosses, capacities, imbalanceOnly, noCross, otherCapacity}
+use Rattle.wire.specs.Letters.{live, closed, firmNotListed, invalidStock, stockHalted, notInThisCross, invalidDisplay, invalidPrice, aboveThreshold, invalidMinimum, displays, crosses, capacities, imbalanceOnly, noCross, otherCapacity}
 use Rattle.wire.specs.Limits.{tokenSize}
 use Rattle.wire.specs.Text.{shaped}
 use Rattle.wire.specs.Price.{goodPrice}
@@ -14,9 +14,10 @@ use Rattle.orders.specs.Counts.{newCounts, openShares}
 use Rattle.orders.specs.Order.{isUsed}
 use Rattle.header.specs.Header.{isOpenDay}
 use Rattle.header.specs.Firms.{meantFirm, isListed}
+use Rattle.stocks.specs.Standing.{isListed as isListedStock, isHalted}
 use Rattle.rules.specs.Limits.{longestTime, immediate}
 use Rattle.rules.specs.Plan.{ignored, accepting, rejecting}
-use Rattle.rules.specs.Types.{Decision, Fault, Letter, Absent, Total, Removed, Price, Kept, Terms, Order, Header, EnterOrder}
+use Rattle.rules.specs.Types.{Decision, Fault, Letter, Absent, Total, Removed, Price, Kept, Terms, Order, Header, Standing, EnterOrder}
 
 -- ---- faults that O and U share
 
@@ -47,13 +48,18 @@ faultOfNumbers h e =
     ⨾ badMinimum (e .minimum) (e .time) (openShares (newCounts (e .shares))) ⇒ Letter invalidMinimum  -- N
     ⨾ Absent (record { 0 = e .price })
 
--- day not open; firm not listed; stock not 1 to 8 capitals then spaces; cross not N O C; display; and then those
-unfoldable pub enterFault : Header → List ℕ → EnterOrder → Fault
-enterFault h firm e =
+-- S: stock not 1 to 8 capitals then spaces, or not listed (Ask 2)
+unfoldable pub badStock : List ℕ → Standing → Bool
+badStock symbol stock = not (shaped symbol && isListedStock stock)
+
+-- day not open; firm not listed; stock, and then whether it is halted (Ask 2); cross not N O C; display; and then those
+unfoldable pub enterFault : Header → List ℕ → Standing → EnterOrder → Fault
+enterFault h firm stock e =
     firstOf
     not (isOpenDay h) ⇒ Letter closed  -- C
     ⨾ not (isListed h firm) ⇒ Letter firmNotListed  -- L
-    ⨾ not (shaped (e .stock)) ⇒ Letter invalidStock  -- S
+    ⨾ badStock (e .stock) stock ⇒ Letter invalidStock  -- S
+    ⨾ isHalted stock ⇒ Letter stockHalted  -- H
     ⨾ not (among crosses (e .cross)) ⇒ Letter notInThisCross  -- R
     ⨾ badDisplay (e .display) (e .cross) ⇒ Letter invalidDisplay  -- D
     ⨾ faultOfNumbers h e
@@ -98,10 +104,10 @@ unfoldable pub enterOutcome : Header → List ℕ → EnterOrder → Fault → D
 enterOutcome h firm e (Letter reason) = rejecting (e .token) reason
 enterOutcome h firm e (Absent price) = accepting (enteredOrder h firm e price)
 
--- Used token: 1. A blank firm means, and so becomes, the default. (`found` is what the entry's token means so far.)
-unfoldable pub enterRule : Header → Order → EnterOrder → Decision
-enterRule h found e =
+-- Used token: 1. A blank firm means, and so becomes, the default. (`found` is what the entry's token means so far, `stock` how its stock stands.)
+unfoldable pub enterRule : Header → Order → Standing → EnterOrder → Decision
+enterRule h found stock e =
     let firm = meantFirm h (e .firm) in
     firstOf
     isUsed found ⇒ ignored
-    ⨾ enterOutcome h firm e (enterFault h firm e)
+    ⨾ enterOutcome h firm e (enterFault h firm stock e)

@@ -4,19 +4,24 @@
 --     added     what the first free record holds afterwards; noOrder if it stays free
 --     numbered  whether the order that is changed or added has taken the next reference
 --     notice    what is told
+--     stock     a listed stock and its state afterwards; noStock if every stock stays as it is (Ask 2)
 use Prim.Native.Nat.{ℕ}
 use mathlib.Core.Bool.{Bool, true, false}
 use mathlib.Core.List.{List}
 use Rattle.answers.specs.Answer.{isDone}
+use Rattle.octets.specs.Bytes.{zeros}
 use Rattle.octets.specs.Choice.{firstOf_, _⇒_⨾_}
 use Rattle.orders.specs.Order.{noOrder, rejectedOrder}
-use Rattle.rules.specs.Types.{Order, Answer, Plan, Begins, Nothing, Day, Decision, Notice, Silent, Rejected, Accepted, Replaced, SystemEvent, Done, Ignored}
+use Rattle.rules.specs.Types.{Order, Answer, Plan, Begins, Nothing, Day, StockState, Decision, Notice, Silent, Rejected, Accepted, Replaced, SystemEvent, Done, Ignored}
+
+abbrev pub noStock : StockState
+noStock = record { symbol = zeros 8; state = 0 }
 
 abbrev pub decided : Answer → Begins → Order → Order → Bool → Notice → Decision
 decided answer begins changed added numbered notice =
     record {
       answer = answer;
-      plan = record { begins = begins; changed = changed; added = added; numbered = numbered; notice = notice };
+      plan = record { begins = begins; changed = changed; added = added; numbered = numbered; notice = notice; stock = noStock };
     }
 
 -- nothing changes and nothing is told
@@ -59,3 +64,11 @@ rejecting token reason = decided Done Nothing noOrder (rejectedOrder token) fals
 -- System Event, sets day
 unfoldable pub beginning : ℕ → ℕ → Decision
 beginning day event = decided Done (Day day) noOrder noOrder false (SystemEvent event)
+
+-- a stock's state, and nothing is sent (Ask 2)
+unfoldable pub setting : StockState → Decision
+setting e =
+    record {
+      answer = Done;
+      plan = record { begins = Nothing; changed = noOrder; added = noOrder; numbered = false; notice = Silent; stock = e };
+    }

@@ -1,15 +1,16 @@
 -- U: a live order is replaced by another under a new token (What each entry does, U).
 use mathlib.Core.Bool.{Bool, not, _||_}
 use Rattle.octets.specs.Choice.{firstOf_, _⇒_⨾_}
-use Rattle.wire.specs.Letters.{live, closed, notInThisCross, userRequested}
+use Rattle.wire.specs.Letters.{live, closed, stockHalted, notInThisCross, userRequested}
 use Rattle.wire.specs.Shares.{_less_, _isBelow_}
 use Rattle.orders.specs.Counts.{gone, openShares, withLiable}
 use Rattle.orders.specs.Order.{isLive, isUsed, _is_, killed}
 use Rattle.orders.specs.declared.flags.Flag.the-variants.{Late}
 use Rattle.header.specs.Header.{isOpenDay}
+use Rattle.stocks.specs.Standing.{isHalted}
 use Rattle.rules.specs.Plan.{ignored, changing, replacing, rejecting}
 use Rattle.rules.specs.Enter.{badShares, badPrice, badDisplay, badMinimum, acceptedTerms}
-use Rattle.rules.specs.Types.{Canceled, Decision, Price, Order, Header, ReplaceOrder}
+use Rattle.rules.specs.Types.{Canceled, Decision, Price, Order, Header, Standing, ReplaceOrder}
 
 -- shares 0, not below threshold, or not above executed + self-matched; display and minimum judged as for O, minimum against the new open
 unfoldable pub badBesidePrice : Header → Order → ReplaceOrder → Bool
@@ -53,12 +54,13 @@ replaceOpen h old e =
     badDetails h old e ⇒ canceledWhole old
     ⨾ replacing (killed old) (replacementOrder h old e (record { 0 = e .price }))
 
--- Existing not live, or replacement token used: 1. Day not open: Rejected C. Late: Rejected R. (`old` is what the existing token means,
--- `found` what the replacement token means so far.)
-unfoldable pub replaceRule : Header → Order → Order → ReplaceOrder → Decision
-replaceRule h old found e =
+-- Existing not live, or replacement token used: 1. Day not open: Rejected C. Late: Rejected R. Old stock halted: Rejected H (Ask 2). (`old` is
+-- what the existing token means, `found` what the replacement token means so far, `stock` how the old stock stands.)
+unfoldable pub replaceRule : Header → Order → Order → Standing → ReplaceOrder → Decision
+replaceRule h old found stock e =
     firstOf
     not (isLive old) || isUsed found ⇒ ignored
     ⨾ not (isOpenDay h) ⇒ rejecting (e .replacement) closed
     ⨾ old is Late ⇒ rejecting (e .replacement) notInThisCross
+    ⨾ isHalted stock ⇒ rejecting (e .replacement) stockHalted
     ⨾ replaceOpen h old e

@@ -10,6 +10,8 @@ pub use Rattle.inbound.specs.declared.cancel_order.CancelOrder.{CancelOrder}
 pub use Rattle.inbound.specs.declared.modify_order.ModifyOrder.{ModifyOrder}
 pub use Rattle.tape.specs.declared.entry.Execution.{Execution}
 pub use Rattle.tape.specs.declared.entry.SelfMatch.{SelfMatch}
+pub use Rattle.tape.specs.declared.entry.StockState.{StockState}
+pub use Rattle.stocks.specs.declared.standing.Standing.{Standing}
 pub use Rattle.header.specs.declared.Header.{Header}
 pub use Rattle.orders.specs.declared.counts.Counts.{Counts}
 pub use Rattle.orders.specs.declared.order.Kept.{Kept}

@@ -1,8 +1,10 @@
 // O: an order is entered. The first fault, in the paper's order, is the letter of its Rejected Message.
 ghost use mathlib.Core.Path.{_≡_};
 ghost use Rattle.octets.specs.Choice.{_⇒_⨾_};
+ghost use Rattle.wire.specs.Letters.{invalidStock, stockHalted};
+ghost use Rattle.stocks.specs.Standing.{isHalted};
 ghost use Rattle.rules.specs.Types.{Letter};
-ghost use Rattle.rules.specs.Enter.{badDisplay, badShares, badMinimum, faultOfNumbers, enterFault, acceptedTerms, enteredKept, enteredOrder, enterRule};
+ghost use Rattle.rules.specs.Enter.{badDisplay, badShares, badMinimum, faultOfNumbers, badStock, enterFault, acceptedTerms, enteredKept, enteredOrder, enterRule};
 use crate::plan::Decision;
 use crate::plan::accepting;
 use crate::plan::refused;
@@ -20,6 +22,8 @@ use orders::order::Kept;
 use orders::order::Order;
 use orders::order::Terms;
 use orders::order::is_used;
+use stocks::standing::Standing;
+use stocks::standing::is_halted;
 use wire::letters::is_capacity;
 use wire::letters::is_cross;
 use wire::letters::is_display;
@@ -87,9 +91,17 @@ fn fault_of_numbers(h: Header, e: EnterOrder) -> Fault
     }
 }
 
+// S and H.
+fn fault_of_stock(stock: [u8; 8], standing: Standing, later: Fault) -> Fault
+    ensures { λ r. ⌜ r ≡ (badStock stock standing ⇒ Letter invalidStock ⨾ isHalted standing ⇒ Letter stockHalted ⨾ later) ⌝ }
+{
+    let good = is_shaped(&stock) & stocks::standing::is_listed(standing);
+    first_fault(!good, b'S', first_fault(is_halted(standing), b'H', later))
+}
+
 // Asked from the last to the first, so that the first that applies is what is left.
-fn enter_fault(h: Header, firm: [u8; 4], e: EnterOrder) -> Fault
-    ensures { λ r. ⌜ r ≡ enterFault h firm e ⌝ }
+fn enter_fault(h: Header, firm: [u8; 4], standing: Standing, e: EnterOrder) -> Fault
+    ensures { λ r. ⌜ r ≡ enterFault h firm standing e ⌝ }
 {
     let stock = e.stock;
     let d = first_fault(
@@ -98,7 +110,7 @@ fn enter_fault(h: Header, firm: [u8; 4], e: EnterOrder) -> Fault
         fault_of_numbers(h, e),
     );
     let r = first_fault(!is_cross(e.cross), b'R', d);
-    let s = first_fault(!is_shaped(&stock), b'S', r);
+    let s = fault_of_stock(stock, standing, r);
     let l = first_fault(!is_listed(h, firm), b'L', s);
     first_fault(!is_open_day(h), b'C', l)
 }
@@ -167,9 +179,9 @@ fn entered_order(h: Header, firm: [u8; 4], e: EnterOrder, price: Price) -> Order
     }
 }
 
-// `found` is what the entry's token means so far.
-pub fn enter(h: Header, found: Order, e: EnterOrder) -> Decision
-    ensures { λ r. ⌜ r ≡ enterRule h found e ⌝ }
+// `found` is what the entry's token means so far, `standing` how its stock stands.
+pub fn enter(h: Header, found: Order, standing: Standing, e: EnterOrder) -> Decision
+    ensures { λ r. ⌜ r ≡ enterRule h found standing e ⌝ }
 {
     if is_used(found) {
         return refused(Answer::Ignored);
@@ -177,7 +189,7 @@ pub fn enter(h: Header, found: Order, e: EnterOrder) -> Decision
     let token = e.token;
     let sent = e.firm;
     let firm = meant_firm(h, sent);
-    match enter_fault(h, firm, e) {
+    match enter_fault(h, firm, standing, e) {
         Fault::Letter(reason) => rejecting(token, reason),
         Fault::Absent(price) => accepting(entered_order(h, firm, e, price)),
     }

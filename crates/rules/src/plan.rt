@@ -1,12 +1,13 @@
 // What a rule decides. The rules know neither bytes nor the ring: a plan is values only.
 ghost use mathlib.Core.Path.{_≡_};
-ghost use Rattle.rules.specs.Plan.{decided, refused, changing, renumbering, accepting, replacing, rejecting, beginning};
+ghost use Rattle.rules.specs.Plan.{noStock, decided, refused, changing, renumbering, accepting, replacing, rejecting, beginning, setting};
 use answers::Answer;
 use orders::order::Order;
 use orders::order::no_order;
 use orders::order::rejected_order;
 use tape::entry::Execution;
 use tape::entry::SelfMatch;
+use tape::entry::StockState;
 use wire::shares::Removed;
 
 // What is told, beside the stamp and what the plan's orders hold.
@@ -31,7 +32,7 @@ pub enum Begins {
     Day(u8),
 }
 
-// All that a done entry changes beside the last stamp. An order of state 0 stands for none.
+// All that a done entry changes beside the last stamp. An order of state 0 stands for none, and so does a stock.
 pub struct Plan {
     pub begins: Begins,
     // the order that the entry names, as it is afterwards; none if it stays as it is
@@ -41,6 +42,8 @@ pub struct Plan {
     // the order above has taken the next reference
     pub numbered: bool,
     pub notice: Notice,
+    // a listed stock and its state from now on; none if every stock stays as it is
+    pub stock: StockState,
 }
 
 // The plan is carried out where the answer is Done.
@@ -49,6 +52,16 @@ pub struct Decision {
     pub plan: Plan,
 }
 
+fn no_stock() -> StockState
+    ensures { λ r. ⌜ r ≡ noStock ⌝ }
+{
+    StockState {
+        symbol: [0u8; 8],
+        state: 0,
+    }
+}
+
+// What is about orders leaves all stocks as they are.
 fn decided(
     answer: Answer,
     begins: Begins,
@@ -65,6 +78,7 @@ fn decided(
         added,
         numbered,
         notice,
+        stock: no_stock(),
     };
     Decision { answer, plan }
 }
@@ -141,4 +155,23 @@ pub fn beginning(day: u8, event: u8) -> Decision
         false,
         Notice::SystemEvent(event),
     )
+}
+
+// A stock's state is set, and nothing is told of it.
+pub fn setting(e: StockState) -> Decision
+    ensures { λ r. ⌜ r ≡ setting e ⌝ }
+{
+    let none = no_order();
+    let plan = Plan {
+        begins: Begins::Nothing,
+        changed: none,
+        added: none,
+        numbered: false,
+        notice: Notice::Silent,
+        stock: e,
+    };
+    Decision {
+        answer: Answer::Done,
+        plan,
+    }
 }

@@ -26,6 +26,8 @@ use orders::order::is;
 use orders::order::is_live;
 use orders::order::is_used;
 use orders::order::killed;
+use stocks::standing::Standing;
+use stocks::standing::is_halted;
 use wire::price::Price;
 use wire::price::Priced;
 
@@ -73,7 +75,7 @@ fn canceled_whole(old: Order) -> Decision
     changing(killed(old), Notice::Canceled(by, b'U'))
 }
 
-// Of a live order on an open day that is not late.
+// Of a live order on an open day that is not late, in a stock that is not halted.
 fn replace_open(h: Header, old: Order, e: ReplaceOrder) -> Decision
     ensures { λ r. ⌜ r ≡ replaceOpen h old e ⌝ }
 {
@@ -86,9 +88,9 @@ fn replace_open(h: Header, old: Order, e: ReplaceOrder) -> Decision
     }
 }
 
-// `old` is what the existing token means, `found` what the replacement token means so far.
-pub fn replace(h: Header, old: Order, found: Order, e: ReplaceOrder) -> Decision
-    ensures { λ r. ⌜ r ≡ replaceRule h old found e ⌝ }
+// `old` is what the existing token means, `found` what the replacement token means so far, `standing` how the old stock stands.
+pub fn replace(h: Header, old: Order, found: Order, standing: Standing, e: ReplaceOrder) -> Decision
+    ensures { λ r. ⌜ r ≡ replaceRule h old found standing e ⌝ }
 {
     if !is_live(old) | is_used(found) {
         return refused(Answer::Ignored);
@@ -99,6 +101,9 @@ pub fn replace(h: Header, old: Order, found: Order, e: ReplaceOrder) -> Decision
     }
     if is(old, Flag::Late) {
         return rejecting(token, b'R');
+    }
+    if is_halted(standing) {
+        return rejecting(token, b'H');
     }
     replace_open(h, old, e)
 }

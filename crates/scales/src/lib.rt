@@ -1,16 +1,22 @@
-// Two functions behind a C door of their own, for the benchmark to weigh by themselves: a step does both and more, and the host's door calls
-// neither.
+// Four functions behind a C door of their own, for the benchmark to weigh by themselves: a step does all of this and more, and the host's door
+// calls none of them.
 use answers::number;
 use outbox::marks::Marks;
 use outbox::put::put;
+use stocks::find::standing;
+use stocks::judge::list_good;
+use stocks::standing::Standing;
 use table::sound::sound;
 ghost use mathlib.Core.Path.{_≡_};
+ghost use mathlib.Core.Bool.{true};
 ghost use lib.ListN.{length};
 ghost use Rattle.answers.specs.Answer.{answerNumber};
 ghost use Rattle.outbox.specs.Outbox.{putMoved, putRing};
+ghost use Rattle.stocks.specs.Limits.{symbolSize};
+ghost use Rattle.stocks.specs.Stocks.{listGood, standingIn};
 ghost use Rattle.table.specs.Table.{sound};
 ghost use Rattle.octets.specs.Choice.{pick};
-ghost use Rattle.scales.specs.Marked.{marks};
+ghost use Rattle.scales.specs.Numbers.{marks, standingNumber};
 
 // 1 for a sound table, and 0.
 #[no_mangle]
@@ -28,4 +34,26 @@ pub extern "C" fn pq_put(ring: &mut [u8], at: usize, held: usize, message: &[u8]
     let moved = put(ring, Marks { at, held }, message);
     let answer = moved.answer;
     number(answer)
+}
+
+// 1 for a right list of stocks, and 0.
+#[no_mangle]
+pub extern "C" fn pq_stocks_good(stocks: &[u8]) -> u8
+    ensures { λ r. ⌜ r ≡ pick (listGood (now (stocks .entry))) 1 0 ⌝ }
+{
+    if list_good(stocks) { 1 } else { 0 }
+}
+
+// How a symbol of eight bytes stands in a list that was judged: 0 where it is not listed, 1 where it trades, 2 where it is halted.
+#[no_mangle]
+pub extern "C" fn pq_standing(stocks: &[u8], symbol: &[u8]) -> u8
+    requires { ⌜ (listGood (now stocks) ≡ true) × (length (now symbol) ≡ symbolSize) ⌝ }
+    ensures { λ r. ⌜ r ≡ standingNumber (standingIn (now (stocks .entry)) (now (symbol .entry))) ⌝ }
+{
+    let eight = octets::bytes8_at(symbol, 0);
+    match standing(stocks, eight) {
+        Standing::Trading => 1,
+        Standing::Halted => 2,
+        Standing::Unlisted => 0,
+    }
 }

@@ -28,7 +28,7 @@ pub(crate) fn point_at(s: &[u8], at: usize) -> bool
     end_line()
 }
 
-// Every kind has a stamp, and every kind but the system's a token behind it.
+// Every kind has a stamp, and every kind but s and h a token behind it.
 fn say_field(kind: Kind, at: usize) {
     if at < TOKEN {
         say(b"stamp");
@@ -40,6 +40,7 @@ fn say_field(kind: Kind, at: usize) {
     }
     match kind {
         Kind::TellsDay => say(b"event"),
+        Kind::SetsStock => say(b"state"),
         _ => say(b"token"),
     }
 }

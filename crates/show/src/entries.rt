@@ -26,6 +26,7 @@ use tape::reading::priority_of;
 use tape::reading::replace_of;
 use tape::reading::self_match_of;
 use tape::reading::stamp_of;
+use tape::reading::stock_state_of;
 use tape::reading::system_of;
 use tape::reading::token_of;
 
@@ -62,6 +63,7 @@ fn show_legal(s: &[u8]) -> bool {
         Kind::TurnsLate => (s.len() == 23) && show_late(s),
         Kind::EndsCross => (s.len() == 23) && show_cross_done(s),
         Kind::TellsDay => (s.len() == 10) && show_system(s),
+        Kind::SetsStock => (s.len() == 18) && show_stock_state(s),
         Kind::Unknown => true,
     }
 }
@@ -185,5 +187,16 @@ fn show_system(s: &[u8]) -> bool
     let m = system_of(s);
     say_stamp(b"System ", stamp_of(s));
     say_letter(b" event ", m.event);
+    end_line()
+}
+
+fn show_stock_state(s: &[u8]) -> bool
+    requires { ⌜ length (now s) ≡ 18 ⌝ }
+{
+    let m = stock_state_of(s);
+    let symbol = m.symbol;
+    say_stamp(b"Stock State ", stamp_of(s));
+    say_stock(symbol);
+    say_letter(b" state ", m.state);
     end_line()
 }

@@ -1,4 +1,4 @@
-// Plays the tape on standard input through a fresh host; what the host sends goes to standard output as it is.
+// Plays the tape on standard input through a fresh host with one stock, ABC, which trades; what the host sends goes to standard output as it is.
 //
 // The words are `ring N`, `release K` and `records N`: another ring, a reader that takes K bytes between two offers, and another table. An entry that
 // is blocked is offered again until it is not, and at the end the reader takes what is still held. So the bytes are the same whatever the ring and
@@ -96,6 +96,7 @@ fn asked(tape: &mut [u8], feed: Feed, blocked: bool) -> Feed
 fn offered(
     table: &mut [u8],
     ring: &mut [u8],
+    stocks: &mut [u8],
     entry: &[u8],
     marks: Marks,
     takes: usize,
@@ -103,7 +104,7 @@ fn offered(
 ) -> Run
     ensures { λ r. ⌜ r .feed .left ≤ feed .left ⌝ }
 {
-    let stepped = step(table, ring, marks, entry);
+    let stepped = step(table, ring, marks, stocks, entry);
     let answer = stepped.answer;
     let after = stepped.marks;
     let sending = send(ring, after, takes);
@@ -127,7 +128,14 @@ fn offered(
 }
 
 // One offer, where there is an entry. What is no whole entry is the last, and the host takes nothing of it.
-fn turn(table: &mut [u8], ring: &mut [u8], tape: &mut [u8], takes: usize, run: Run) -> Run
+fn turn(
+    table: &mut [u8],
+    ring: &mut [u8],
+    stocks: &mut [u8],
+    tape: &mut [u8],
+    takes: usize,
+    run: Run,
+) -> Run
     ensures { λ r. ⌜ r .feed .left ≤ run .feed .left - 1 ⌝ }
 {
     let before = run.feed;
@@ -142,21 +150,28 @@ fn turn(table: &mut [u8], ring: &mut [u8], tape: &mut [u8], takes: usize, run: R
             written: run.written,
         };
     }
-    offered(table, ring, entry, marks, takes, feed)
+    offered(table, ring, stocks, entry, marks, takes, feed)
 }
 
-fn play(table: &mut [u8], ring: &mut [u8], tape: &mut [u8], takes: usize) -> Run {
+fn play(
+    table: &mut [u8],
+    ring: &mut [u8],
+    stocks: &mut [u8],
+    tape: &mut [u8],
+    takes: usize,
+) -> Run {
     let mut run = begun();
     while 0 < run.feed.left {
-        run = turn(table, ring, tape, takes, run);
+        run = turn(table, ring, stocks, tape, takes, run);
     }
     run
 }
 
-// A fresh day and the tape; at the end the reader takes all that is held.
+// A fresh day with its list of stocks, and the tape; at the end the reader takes all that is held.
 fn play_day(table: &mut [u8], ring: &mut [u8], tape: &mut [u8], takes: usize) {
+    let mut stocks = desk::STOCKS;
     desk::open(table);
-    let run = play(table, ring, tape, takes);
+    let run = play(table, ring, &mut stocks, tape, takes);
     finish(ring, run);
 }
 

@@ -1,10 +1,10 @@
 -- The table: its bytes, when they are sound, which record a token means, and how a value is stored (Table and outbox).
-use Prim.Native.Nat.{ℕ, zero, suc, _+_, _-_, _*_, _/_, _<_, min}
+use Prim.Native.Nat.{ℕ, _+_, _-_, _*_, _/_, _<_, min}
 use mathlib.Core.Bool.{Bool, _&&_}
 use mathlib.Core.List.{List, [], _∷_}
 use lib.ListN.{length, take}
 use lib.Dec.{leb, ltb, eqb}
-use Rattle.octets.specs.Choice.{pick, every, allBelow}
+use Rattle.octets.specs.Choice.{pick, every, allBelow, firstBelow}
 use Rattle.octets.specs.Bytes.{part, put, same, zeros}
 use Rattle.header.specs.Limits.{headerSize}
 use Rattle.header.specs.Header.{headerOf, headerBytes}
@@ -59,15 +59,13 @@ sound t =
 
 -- ---- a token means its first used record
 
--- the first of the `left` records from i on with this token; where there is none, the number behind them
-unfoldable pub placeFrom : List ℕ → List ℕ → ℕ → ℕ → ℕ
-placeFrom t token zero i = i
-placeFrom t token (suc left) i =
-    let later = placeFrom t token left (i + 1) in
-    pick (same (orderAt t i .token) token) i later
+-- record i has this token
+unfoldable pub hasToken : List ℕ → List ℕ → ℕ → Bool
+hasToken t token i = same (orderAt t i .token) token
 
+-- where no record has it, the number behind the used ones
 unfoldable pub placeOf : List ℕ → List ℕ → ℕ
-placeOf t token = placeFrom t token (usedIn t) 0
+placeOf t token = firstBelow (usedIn t) (hasToken t token)
 
 -- the order at a place so found
 unfoldable pub orderFrom : List ℕ → ℕ → Order

@@ -3,11 +3,11 @@ ghost use mathlib.Core.Path.{_≡_};
 ghost use Prim.Native.Nat.{_+_, _≤_};
 ghost use lib.ListN.{length, getD};
 ghost use lib.Dec.{eqb};
-ghost use Rattle.octets.specs.Choice.{allBelow};
+ghost use Rattle.octets.specs.Choice.{allBelow, firstBelow};
 ghost use Rattle.octets.specs.Bytes.{same};
 ghost use Rattle.orders.specs.Limits.{recordSize};
 ghost use Rattle.orders.specs.Order.{orderOf};
-ghost use Rattle.table.specs.Table.{recordsIn, placeFrom, placeOf, orderFrom};
+ghost use Rattle.table.specs.Table.{recordsIn, hasToken, placeOf, orderFrom};
 use crate::places::order_at;
 use crate::places::record_bytes;
 use crate::places::used;
@@ -42,7 +42,7 @@ fn has_token(r: &[u8], token: [u8; 14]) -> bool
 
 fn first(table: &[u8], token: [u8; 14], n: usize) -> usize
     requires { ⌜ n ≤ recordsIn (now table) ⌝ }
-    ensures { λ r. ⌜ r ≡ placeFrom (now (table .entry)) token n 0 ⌝ }
+    ensures { λ r. ⌜ r ≡ firstBelow n (hasToken (now (table .entry)) token) ⌝ }
 {
     let mut i: usize = 0;
     while i < n {

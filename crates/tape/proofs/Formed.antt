@@ -6,7 +6,7 @@ use Rattle.wire.specs.Layout.{stampAt, place, badPlace, firstBadPlace, unbroken
 use Rattle.wire.specs.Messages.{placeAnswer}
 use Rattle.wire.proofs.Found.{not-at-0}
 use Rattle.wire.proofs.Verdicts.{told}
-use Rattle.tape.specs.Kinds.{Kind, Enters, Replaces, Cancels, Modifies, Executes, BookCancels, SelfMatches, Prioritises, TurnsLate, EndsCross, TellsDay, Unknown, kindOf, layoutOf}
+use Rattle.tape.specs.Kinds.{Kind, Enters, Replaces, Cancels, Modifies, Executes, BookCancels, SelfMatches, Prioritises, TurnsLate, EndsCross, TellsDay, SetsStock, Unknown, kindOf, layoutOf}
 use Rattle.tape.specs.Entries.{wellFormed, badPlaceOf, entryAnswer}
 use Rattle.tape.specs.Behind.{behindOf, judgedFields, Within}
 
@@ -41,6 +41,7 @@ within Prioritises = omega arith
 within TurnsLate = omega arith
 within EndsCross = omega arith
 within TellsDay = omega arith
+within SetsStock = omega arith
 within Unknown = tt
 
 -- every kind has room for a stamp
@@ -56,6 +57,7 @@ stamped Prioritises h = omega arith
 stamped TurnsLate h = omega arith
 stamped EndsCross h = omega arith
 stamped TellsDay h = omega arith
+stamped SetsStock h = omega arith
 stamped Unknown h = absurd (h refl)
 
 pub stamp-fits : (s : List ℕ) → wellFormed s ≡ true → 9 ≤ length s
@@ -78,6 +80,7 @@ judged Prioritises s h = refl
 judged TurnsLate s h = refl
 judged EndsCross s h = refl
 judged TellsDay s h = refl
+judged SetsStock s h = refl
 judged Unknown s h = absurd (h refl)
 
 -- the fields of a kind stand one behind the other, from the stamp on
@@ -94,6 +97,7 @@ well-laid Prioritises h = refl
 well-laid TurnsLate h = refl
 well-laid EndsCross h = refl
 well-laid TellsDay h = refl
+well-laid SetsStock h = refl
 well-laid Unknown h = absurd (h refl)
 
 -- ---- 2, 3 or neither

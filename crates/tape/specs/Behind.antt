@@ -1,11 +1,11 @@
 -- What is judged behind an entry's stamp, by kind. This is about inner functions: that each kind's layout judges just this is proved.
 use Prim.Native.Nat.{ℕ, _+_, _<_, _≤_}
 use mathlib.Core.List.{List, [], _∷_}
-use Rattle.wire.specs.Layout.{Field, tokenAt, liquidityAt, bookReasonAt, systemEventAt, limitPriceAt}
+use Rattle.wire.specs.Layout.{Field, tokenAt, liquidityAt, bookReasonAt, systemEventAt, stockStateAt, limitPriceAt}
 use Rattle.wire.specs.Messages.{messageLayout, fieldsFrom}
-use Rattle.tape.specs.Kinds.{Kind, Enters, Replaces, Cancels, Modifies, Executes, BookCancels, SelfMatches, Prioritises, TurnsLate, EndsCross, TellsDay, Unknown}
+use Rattle.tape.specs.Kinds.{Kind, Enters, Replaces, Cancels, Modifies, Executes, BookCancels, SelfMatches, Prioritises, TurnsLate, EndsCross, TellsDay, SetsStock, Unknown}
 pub use Rattle.tape.specs.declared.judging.Behind.{Behind}
-pub use Rattle.tape.specs.declared.judging.Behind.the-variants.{Message, Token, Flag, Reason, Price, Event, Nothing}
+pub use Rattle.tape.specs.declared.judging.Behind.the-variants.{Message, Token, Flag, Reason, Price, Event, State, Nothing}
 
 abbrev pub behindOf : Kind → Behind
 behindOf Enters = Message 0
@@ -19,6 +19,7 @@ behindOf Prioritises = Price
 behindOf TurnsLate = Token
 behindOf EndsCross = Token
 behindOf TellsDay = Event
+behindOf SetsStock = State
 behindOf Unknown = Nothing
 
 abbrev pub judgedFields : Behind → List Field
@@ -28,6 +29,7 @@ judgedFields (Flag at) = tokenAt 9 ∷ liquidityAt at ∷ []
 judgedFields (Reason at) = tokenAt 9 ∷ bookReasonAt at ∷ []
 judgedFields Price = tokenAt 9 ∷ limitPriceAt 23 ∷ []
 judgedFields Event = systemEventAt 9 ∷ []
+judgedFields State = stockStateAt 17 ∷ []
 judgedFields Nothing = []
 
 -- they lie in an entry of n bytes
@@ -38,4 +40,5 @@ Within (Flag at) n = (23 ≤ n) × (at < n)
 Within (Reason at) n = (23 ≤ n) × (at < n)
 Within Price n = 27 ≤ n
 Within Event n = 9 < n
+Within State n = 17 < n
 Within Nothing n = Unit {0}

@@ -16,12 +16,13 @@ use Rattle.inbound.specs.declared.enter_order.EnterOrder.{EnterOrder}
 use Rattle.inbound.specs.declared.replace_order.ReplaceOrder.{ReplaceOrder}
 use Rattle.inbound.specs.declared.cancel_order.CancelOrder.{CancelOrder}
 use Rattle.inbound.specs.declared.modify_order.ModifyOrder.{ModifyOrder}
-use Rattle.tape.specs.Kinds.{kindOf, layoutOf, executionEntry, bookCancelEntry, selfMatchEntry, priorityEntry, systemEntry}
+use Rattle.tape.specs.Kinds.{kindOf, layoutOf, executionEntry, bookCancelEntry, selfMatchEntry, priorityEntry, systemEntry, stockEntry}
 pub use Rattle.tape.specs.declared.entry.Execution.{Execution}
 pub use Rattle.tape.specs.declared.entry.BookCancel.{BookCancel}
 pub use Rattle.tape.specs.declared.entry.SelfMatch.{SelfMatch}
 pub use Rattle.tape.specs.declared.entry.Priority.{Priority}
 pub use Rattle.tape.specs.declared.entry.System.{System}
+pub use Rattle.tape.specs.declared.entry.StockState.{StockState}
 
 -- ---- judging
 
@@ -48,7 +49,7 @@ entryAnswer s =
 unfoldable pub stampOf : List ℕ → ℕ
 stampOf s = get (stampAt 1) s
 
--- every kind but the system's has a token behind its stamp, and no entry of the system's is as long
+-- every kind but s and h has a token behind its stamp, and no entry of those two is as long
 abbrev pub tokenEnd : ℕ
 tokenEnd = 23
 
@@ -100,3 +101,8 @@ unfoldable pub systemOf : List ℕ → System
 systemOf s =
     reading (systemEntry .fields) s λ _ event.
     record { event = event }
+
+unfoldable pub stockStateOf : List ℕ → StockState
+stockStateOf s =
+    reading (stockEntry .fields) s λ _ symbol state.
+    record { symbol = symbol; state = state }

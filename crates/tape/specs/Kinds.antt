@@ -5,10 +5,10 @@ use mathlib.Core.List.{List, [], _∷_, map}
 use lib.ListN.{getD}
 use lib.Dec.{eqb}
 use Rattle.octets.specs.Choice.{firstOf_, _⇒_⨾_}
-use Rattle.wire.specs.Layout.{Layout, stampAt, tokenAt, wholeAt, liquidityAt, bookReasonAt, systemEventAt, limitPriceAt, shifted}
+use Rattle.wire.specs.Layout.{Layout, stampAt, tokenAt, wholeAt, liquidityAt, bookReasonAt, systemEventAt, stockStateAt, limitPriceAt, textAt, shifted}
 use Rattle.wire.specs.Messages.{enterOrder, replaceOrder, cancelOrder, modifyOrder, noMessage}
 pub use Rattle.tape.specs.declared.kinds.Kind.{Kind}
-pub use Rattle.tape.specs.declared.kinds.Kind.the-variants.{Enters, Replaces, Cancels, Modifies, Executes, BookCancels, SelfMatches, Prioritises, TurnsLate, EndsCross, TellsDay, Unknown}
+pub use Rattle.tape.specs.declared.kinds.Kind.the-variants.{Enters, Replaces, Cancels, Modifies, Executes, BookCancels, SelfMatches, Prioritises, TurnsLate, EndsCross, TellsDay, SetsStock, Unknown}
 
 -- every body opens with an 8-byte stamp; then the inbound message without its type
 abbrev pub stamped : Layout → Layout
@@ -86,6 +86,18 @@ crossDoneEntry = record { code = code "f"; size = 23; fields = stampAt 1 ∷ tok
 abbrev pub systemEntry : Layout
 systemEntry = record { code = code "s"; size = 10; fields = stampAt 1 ∷ systemEventAt 9 ∷ [] }
 
+-- Ask 2
+abbrev pub stockEntry : Layout
+stockEntry = record {
+  code = code "h";
+  size = 18;
+  fields =
+      stampAt 1
+      ∷ textAt 9 8  -- symbol
+      ∷ stockStateAt 17  -- state
+      ∷ [];
+}
+
 abbrev pub layoutOf : Kind → Layout
 layoutOf Enters = enterEntry
 layoutOf Replaces = replaceEntry
@@ -98,6 +110,7 @@ layoutOf Prioritises = priorityEntry
 layoutOf TurnsLate = lateEntry
 layoutOf EndsCross = crossDoneEntry
 layoutOf TellsDay = systemEntry
+layoutOf SetsStock = stockEntry
 layoutOf Unknown = noMessage
 
 -- ---- the kind of an entry
@@ -117,6 +130,7 @@ kindBy b =
     ⨾ eqb b (lateEntry .code) ⇒ TurnsLate
     ⨾ eqb b (crossDoneEntry .code) ⇒ EndsCross
     ⨾ eqb b (systemEntry .code) ⇒ TellsDay
+    ⨾ eqb b (stockEntry .code) ⇒ SetsStock
     ⨾ Unknown
 
 -- an entry's first byte is its kind
@@ -136,7 +150,8 @@ kindPlace Prioritises = 7
 kindPlace TurnsLate = 8
 kindPlace EndsCross = 9
 kindPlace TellsDay = 10
-kindPlace Unknown = 11
+kindPlace SetsStock = 11
+kindPlace Unknown = 12
 
 -- the length that a kind's letter fixes; 0 for a byte that is no kind
 unfoldable pub entryLength : ℕ → ℕ

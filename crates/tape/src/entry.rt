@@ -27,3 +27,9 @@ pub struct Priority {
 pub struct System {
     pub event: u8,
 }
+
+// A stock is to trade or to be halted.
+pub struct StockState {
+    pub symbol: [u8; 8],
+    pub state: u8,
+}

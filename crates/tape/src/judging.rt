@@ -14,6 +14,7 @@ use wire::places::bad_book_reason;
 use wire::places::bad_limit_price;
 use wire::places::bad_liquidity_flag;
 use wire::places::bad_stamp;
+use wire::places::bad_stock_state;
 use wire::places::bad_system_event;
 use wire::places::bad_token;
 use wire::places::earlier;
@@ -64,6 +65,8 @@ pub enum Behind {
     Price,
     // the code of a system event, and no token
     Event,
+    // the state of a stock, behind any symbol
+    State,
     Nothing,
 }
 
@@ -82,6 +85,7 @@ fn behind_of(kind: Kind) -> Behind
         Kind::TurnsLate => Behind::Token,
         Kind::EndsCross => Behind::Token,
         Kind::TellsDay => Behind::Event,
+        Kind::SetsStock => Behind::State,
         Kind::Unknown => Behind::Nothing,
     }
 }
@@ -97,6 +101,7 @@ fn bad_behind(entry: &[u8], behind: Behind) -> usize
         Behind::Reason(at) => earlier(bad_token(entry, 9), bad_book_reason(entry, at)),
         Behind::Price => earlier(bad_token(entry, 9), bad_limit_price(entry, 23)),
         Behind::Event => bad_system_event(entry, 9),
+        Behind::State => bad_stock_state(entry, 17),
         Behind::Nothing => NOWHERE,
     }
 }

@@ -2,7 +2,7 @@
 ghost use mathlib.Core.Path.{_≡_};
 ghost use Rattle.tape.specs.Kinds.{kindBy, kindOf, kindPlace, layoutOf, entryLength};
 
-// By what an entry does, in the order O U X M e c q p l f s; the last is every other byte.
+// By what an entry does, in the order O U X M e c q p l f s h; the last is every other byte.
 pub enum Kind {
     Enters,
     Replaces,
@@ -15,11 +15,12 @@ pub enum Kind {
     TurnsLate,
     EndsCross,
     TellsDay,
+    SetsStock,
     Unknown,
 }
 
 // Whole lengths, kind byte and stamp included, in that order. Bytes, because a table is copied where it is indexed.
-pub const LENGTHS: [u8; 12] = [56, 55, 27, 28, 40, 28, 36, 27, 23, 23, 10, 0];
+pub const LENGTHS: [u8; 13] = [56, 55, 27, 28, 40, 28, 36, 27, 23, 23, 10, 18, 0];
 
 pub fn kind_by(letter: u8) -> Kind
     ensures { λ r. ⌜ r ≡ kindBy letter ⌝ }
@@ -36,6 +37,7 @@ pub fn kind_by(letter: u8) -> Kind
         b'l' => Kind::TurnsLate,
         b'f' => Kind::EndsCross,
         b's' => Kind::TellsDay,
+        b'h' => Kind::SetsStock,
         _ => Kind::Unknown,
     }
 }
@@ -65,7 +67,8 @@ fn place_of(kind: Kind) -> usize
         Kind::TurnsLate => 8,
         Kind::EndsCross => 9,
         Kind::TellsDay => 10,
-        Kind::Unknown => 11,
+        Kind::SetsStock => 11,
+        Kind::Unknown => 12,
     }
 }
 

@@ -3,6 +3,7 @@ use crate::entry::BookCancel;
 use crate::entry::Execution;
 use crate::entry::Priority;
 use crate::entry::SelfMatch;
+use crate::entry::StockState;
 use crate::entry::System;
 use inbound::cancel_order::CancelOrder;
 use inbound::cancel_order::parse_cancel_order;
@@ -15,12 +16,13 @@ use inbound::replace_order::parse_replace_order;
 use octets::be32;
 use octets::be64;
 use octets::byte_at;
+use octets::bytes8_at;
 use octets::bytes14_at;
 use wire::shares::Removed;
 ghost use mathlib.Core.Path.{_≡_};
 ghost use Prim.Native.Nat.{_+_, _≤_};
 ghost use lib.ListN.{length};
-ghost use Rattle.tape.specs.Entries.{stampOf, tokenEnd, namesOrder, tokenOf, executionOf, bookCancelOf, selfMatchOf, priorityOf, systemOf, messageIn, enterOf, replaceOf, cancelOf, modifyOf};
+ghost use Rattle.tape.specs.Entries.{stampOf, tokenEnd, namesOrder, tokenOf, executionOf, bookCancelOf, selfMatchOf, priorityOf, systemOf, stockStateOf, messageIn, enterOf, replaceOf, cancelOf, modifyOf};
 
 // Every body opens with a stamp.
 pub fn stamp_of(entry: &[u8]) -> u64
@@ -30,7 +32,7 @@ pub fn stamp_of(entry: &[u8]) -> u64
     be64(entry, 1)
 }
 
-// Every kind but the system's has a token behind its stamp, and no entry of the system's is as long.
+// The kinds that name no order, s and h, are shorter than the others are to the end of their token.
 pub const TOKEN_END: usize = 23;
 
 pub fn names_order(entry: &[u8]) -> bool
@@ -96,6 +98,16 @@ pub fn system_of(entry: &[u8]) -> System
 {
     System {
         event: byte_at(entry, 9),
+    }
+}
+
+pub fn stock_state_of(entry: &[u8]) -> StockState
+    requires { ⌜ length (now entry) ≡ 18 ⌝ }
+    ensures { λ r. ⌜ r ≡ stockStateOf (now (entry .entry)) ⌝ }
+{
+    StockState {
+        symbol: bytes8_at(entry, 9),
+        state: byte_at(entry, 17),
     }
 }
 

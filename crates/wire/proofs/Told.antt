@@ -1,8 +1,9 @@
 -- The place that an answer tells: with 3 the smallest offset of a bad byte, and 0 with every other answer; once over all fields. Assumes nothing.
-use Rattle.octets.proofs.Proving.{List, Option, _<_, _≡_, ap, arith, none, refl, some, subst, true, ℕ}
-use Rattle.answers.specs.Answer.{answerPlace}
+use Rattle.octets.proofs.Proving.{List, Option, _<_, _≡_, _⊎_, ap, arith, inl, inr, none, refl, some, subst, true, ℕ}
+use Rattle.answers.specs.Answer.{answerNumber, answerPlace}
 use Rattle.answers.specs.declared.Answer.{Answer}
-use Rattle.answers.specs.declared.Answer.the-variants.{NotSound, WrongRing, Malformed, BadField, TooEarly, Ignored, NotLive, WrongMoment, WrongShares, Full, Blocked, NotHeld, NoRoom, Done}
+use Rattle.answers.specs.declared.Answer.the-variants.{BadField}
+use Rattle.answers.proofs.Laws.{by-place}
 use Rattle.wire.specs.Layout.{Field, firstBadPlace, unbroken}
 use Rattle.wire.specs.Legal.{FirstBad, _exactlyWhen_, PlaceWith3}
 use Rattle.wire.specs.Messages.{badAt_⨾_}
@@ -20,17 +21,10 @@ module _ (fs : List Field) (size : ℕ) (u : unbroken 1 size fs ≡ true) (s : L
 
 -- an answer whose 3 never tells 0
 pub place-with-3 : (a : Answer) → ((at : ℕ) → a ≡ BadField at → 0 < at) → PlaceWith3 a
-place-with-3 NotSound h = (λ e z. omega (arith, z), λ z. refl)
-place-with-3 WrongRing h = (λ e z. omega (arith, z), λ z. refl)
-place-with-3 Malformed h = (λ e z. omega (arith, z), λ z. refl)
-place-with-3 (BadField at) h = (λ e z. omega (arith, e, h at refl), λ z. absurd (z refl))
-place-with-3 TooEarly h = (λ e z. omega (arith, z), λ z. refl)
-place-with-3 Ignored h = (λ e z. omega (arith, z), λ z. refl)
-place-with-3 NotLive h = (λ e z. omega (arith, z), λ z. refl)
-place-with-3 WrongMoment h = (λ e z. omega (arith, z), λ z. refl)
-place-with-3 WrongShares h = (λ e z. omega (arith, z), λ z. refl)
-place-with-3 Full h = (λ e z. omega (arith, z), λ z. refl)
-place-with-3 Blocked h = (λ e z. omega (arith, z), λ z. refl)
-place-with-3 NotHeld h = (λ e z. omega (arith, z), λ z. refl)
-place-with-3 NoRoom h = (λ e z. omega (arith, z), λ z. refl)
-place-with-3 Done h = (λ e z. omega (arith, z), λ z. refl)
+place-with-3 a h = by (by-place a)
+  where
+    by : ((answerNumber a ≡ 3 → ⊥) × (answerPlace a ≡ 0)) ⊎ ((at : ℕ) × (a ≡ BadField at)) → PlaceWith3 a
+    by (inl o) = (λ e. o .0, λ z. o .1)
+    by (inr b) =
+        let told = ap answerPlace (b .1) in
+        (λ e z. omega (arith, e, told, h (b .0) (b .1)), λ z. absurd (z (ap answerNumber (b .1))))

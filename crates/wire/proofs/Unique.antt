@@ -20,7 +20,8 @@ messages-unique = (λ κs a. settled) also (λ κs a. settled)
 
 pub letters-unique : Settled wire.letters.is_sell_side.Reads.Post and Settled wire.letters.is_display.Reads.Post
     and Settled wire.letters.is_capacity.Reads.Post and Settled wire.letters.is_cross.Reads.Post
-letters-unique = (λ κs a. settled) also (λ κs a. settled) also (λ κs a. settled) also (λ κs a. settled)
+    and Settled wire.letters.is_stock_state.Reads.Post
+letters-unique = (λ κs a. settled) also (λ κs a. settled) also (λ κs a. settled) also (λ κs a. settled) also (λ κs a. settled)
 
 pub text-unique : Settled wire.text.is_token_byte.Reads.Post and Settled wire.text.is_shaped.Reads.Post
 text-unique = (λ κs a. settled) also (λ κs a. settled)
@@ -33,9 +34,9 @@ pub places-unique : Settled wire.places.earlier.Reads.Post and Settled wire.plac
     and Settled wire.places.bad_limit_price.Reads.Post and Settled wire.places.bad_token.Reads.Post
     and Settled wire.places.bad_side.Reads.Post and Settled wire.places.bad_sweep.Reads.Post
     and Settled wire.places.bad_liquidity_flag.Reads.Post and Settled wire.places.bad_book_reason.Reads.Post
-    and Settled wire.places.bad_system_event.Reads.Post
+    and Settled wire.places.bad_system_event.Reads.Post and Settled wire.places.bad_stock_state.Reads.Post
 places-unique =
-    (λ κs a. settled) also (λ κs a. settled) also (λ κs a. settled) also (λ κs a. settled) also (λ κs a. settled) also (λ κs a. settled) also (λ κs a. settled)
+    (λ κs a. settled) also (λ κs a. settled) also (λ κs a. settled) also (λ κs a. settled) also (λ κs a. settled) also (λ κs a. settled) also (λ κs a. settled) also (λ κs a. settled)
     also (λ κs a. settled) also (λ κs a. settled) also (λ κs a. settled)
 
 pub shares-unique : Settled wire.shares.Total.is_below.Reads.Post and Settled wire.shares.Total.equals.Reads.Post

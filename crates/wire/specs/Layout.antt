@@ -9,7 +9,7 @@ use mathlib.Core.Option.{Option, none, some}
 use lib.Dec.{leb, ltb, eqb}
 use lib.ListN.{length}
 use Rattle.octets.specs.Choice.{pick, among}
-use Rattle.wire.specs.Letters.{sides, sweeps, liquidityFlags, bookReasons, systemEvents}
+use Rattle.wire.specs.Letters.{sides, sweeps, liquidityFlags, bookReasons, systemEvents, stockStates}
 use Rattle.wire.specs.Limits.{stampEnd, tokenSize, lowestPrice, highestPrice}
 use Rattle.octets.specs.Bytes.{part, put, numberOf, digits, zeros}
 use Rattle.wire.specs.Text.{tokenByte}
@@ -77,6 +77,9 @@ bookReasonAt at = oneOfAt at bookReasons
 
 abbrev pub systemEventAt : ℕ → Field
 systemEventAt at = oneOfAt at systemEvents
+
+abbrev pub stockStateAt : ℕ → Field
+stockStateAt at = oneOfAt at stockStates
 
 abbrev pub limitPriceAt : ℕ → Field
 limitPriceAt at = rangeAt at 4 lowestPrice highestPrice

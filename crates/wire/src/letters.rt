@@ -2,7 +2,7 @@
 // them branches.
 ghost use mathlib.Core.Path.{_≡_};
 ghost use Rattle.octets.specs.Choice.{among};
-ghost use Rattle.wire.specs.Letters.{sides, sellSides, sweeps, displays, capacities, crosses, openingOrClosing, liquidityFlags, bookReasons, systemEvents};
+ghost use Rattle.wire.specs.Letters.{sides, sellSides, sweeps, displays, capacities, crosses, openingOrClosing, liquidityFlags, bookReasons, systemEvents, stockStates};
 
 pub(crate) fn is_side(b: u8) -> bool
     ensures { λ r. ⌜ r ≡ among sides b ⌝ }
@@ -73,4 +73,10 @@ pub(crate) fn is_system_event(b: u8) -> bool
     ensures { λ r. ⌜ r ≡ among systemEvents b ⌝ }
 {
     (b == b'S') | (b == b'E')
+}
+
+pub fn is_stock_state(b: u8) -> bool
+    ensures { λ r. ⌜ r ≡ among stockStates b ⌝ }
+{
+    (b == b'T') | (b == b'H')
 }

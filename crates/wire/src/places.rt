@@ -3,6 +3,7 @@
 use crate::letters::is_book_reason;
 use crate::letters::is_liquidity_flag;
 use crate::letters::is_side;
+use crate::letters::is_stock_state;
 use crate::letters::is_sweep;
 use crate::letters::is_system_event;
 use crate::price::Price;
@@ -12,7 +13,7 @@ ghost use mathlib.Core.Path.{_≡_};
 ghost use Prim.Native.Nat.{_+_, _<_, _≤_};
 ghost use lib.ListN.{length};
 ghost use Rattle.octets.specs.Bytes.{part};
-ghost use Rattle.wire.specs.Letters.{sides, sweeps, liquidityFlags, bookReasons, systemEvents};
+ghost use Rattle.wire.specs.Letters.{sides, sweeps, liquidityFlags, bookReasons, systemEvents, stockStates};
 ghost use Rattle.wire.specs.Limits.{stampEnd, lowestPrice, highestPrice};
 ghost use Rattle.wire.specs.Messages.{placeAnswer};
 ghost use Rattle.wire.specs.Layout.{place, earlierOf, unless, badPlace, below, between, oneOf, legalToken};
@@ -118,4 +119,11 @@ pub fn bad_system_event(s: &[u8], at: usize) -> usize
     ensures { λ r. ⌜ r ≡ place (badPlace (oneOf systemEvents) at (part (now (s .entry)) at 1)) ⌝ }
 {
     bad_unless(is_system_event(octets::byte_at(s, at)), at)
+}
+
+pub fn bad_stock_state(s: &[u8], at: usize) -> usize
+    requires { ⌜ at < length (now s) ⌝ }
+    ensures { λ r. ⌜ r ≡ place (badPlace (oneOf stockStates) at (part (now (s .entry)) at 1)) ⌝ }
+{
+    bad_unless(is_stock_state(octets::byte_at(s, at)), at)
 }

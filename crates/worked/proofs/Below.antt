@@ -7,11 +7,12 @@ use Rattle.inbound.proofs.Opened.{opened as inbound-opened}
 use Rattle.outbound.proofs.Opened.{opened as outbound-opened}
 use Rattle.orders.proofs.Opened.{opened as orders-opened}
 use Rattle.header.proofs.Opened.{opened as header-opened}
+use Rattle.stocks.proofs.Opened.{opened as stocks-opened}
 use Rattle.table.proofs.Opened.{opened as table-opened}
 use Rattle.tape.proofs.Opened.{opened as tape-opened}
 use Rattle.host.proofs.Opened.{opened as host-opened}
-use Rattle.rules.specs.Plan.{refused, allowed, changing, renumbering, accepting, replacing, rejecting, beginning}
-use Rattle.rules.specs.Enter.{badDisplay, badPrice, badShares, badMinimum, faultOfNumbers, enterFault, acceptedTerms, enteredKept, enteredOrder, enterOutcome, enterRule}
+use Rattle.rules.specs.Plan.{refused, allowed, changing, renumbering, accepting, replacing, rejecting, beginning, setting}
+use Rattle.rules.specs.Enter.{badStock, badDisplay, badPrice, badShares, badMinimum, faultOfNumbers, enterFault, acceptedTerms, enteredKept, enteredOrder, enterOutcome, enterRule}
 use Rattle.rules.specs.Replace.{badBesidePrice, badDetails, replacementOrder, canceledWhole, replaceOpen, replaceRule}
 use Rattle.rules.specs.Cancel.{cancelIgnored, lateCancel, decrement, canceledOrder, cancelRule}
 use Rattle.rules.specs.Modify.{sideAllowed, modifyIgnored, modifiedOrder, modifyRule}
@@ -20,9 +21,10 @@ use Rattle.market.specs.Taken.{sharesRight, executionRule, bookCancelRule, self
 use Rattle.market.specs.Priority.{prioritisedOrder, priorityRule}
 use Rattle.market.specs.Cross.{lateRule, crossDone, crossDoneRule}
 use Rattle.market.specs.Day.{systemRule}
+use Rattle.market.specs.Halt.{haltRule}
 use Rattle.notices.specs.Notices.{statedOrder, acceptedNotice, replacedNotice, canceledNotice, selfMatchNotice, executedNotice, rejectedNotice, priorityNotice, modifiedNotice, noticeBytes, message, sent}
 use Rattle.tape.specs.Entries.{namesOrder}
 
 unfoldable pub below : Unit {0}
-unfolding octets-opened answers-opened wire-opened outbox-opened inbound-opened outbound-opened orders-opened header-opened table-opened tape-opened host-opened refused allowed changing renumbering accepting replacing rejecting beginning badDisplay badPrice badShares badMinimum faultOfNumbers enterFault acceptedTerms enteredKept enteredOrder enterOutcome enterRule badBesidePrice badDetails replacementOrder canceledWhole replaceOpen replaceRule cancelIgnored lateCancel decrement canceledOrder cancelRule sideAllowed modifyIgnored modifiedOrder modifyRule marketAnswer sharesRight executionRule bookCancelRule selfMatchRule prioritisedOrder priorityRule lateRule crossDone crossDoneRule systemRule statedOrder acceptedNotice replacedNotice canceledNotice selfMatchNotice executedNotice rejectedNotice priorityNotice modifiedNotice noticeBytes message sent namesOrder
+unfolding octets-opened answers-opened wire-opened outbox-opened inbound-opened outbound-opened orders-opened header-opened stocks-opened table-opened tape-opened host-opened refused allowed changing renumbering accepting replacing rejecting beginning setting badStock badDisplay badPrice badShares badMinimum faultOfNumbers enterFault acceptedTerms enteredKept enteredOrder enterOutcome enterRule badBesidePrice badDetails replacementOrder canceledWhole replaceOpen replaceRule cancelIgnored lateCancel decrement canceledOrder cancelRule sideAllowed modifyIgnored modifiedOrder modifyRule marketAnswer sharesRight executionRule bookCancelRule selfMatchRule prioritisedOrder priorityRule lateRule crossDone crossDoneRule systemRule haltRule statedOrder acceptedNotice replacedNotice canceledNotice selfMatchNotice executedNotice rejectedNotice priorityNotice modifiedNotice noticeBytes message sent namesOrder
 below = tt

@@ -7,3 +7,4 @@ pub mod Replay
 pub mod Edges
 pub mod Odds
 pub mod Places
+pub mod Halts

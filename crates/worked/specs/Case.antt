@@ -89,14 +89,15 @@ unfoldable pub unlessDone : ℕ → World → World → Bool
 unlessDone answer w now =
     eqb answer 0
     || every
-    (same (w .table) (now .table)
+    (same (w .books .table) (now .books .table)
+    ∷ same (w .books .stocks) (now .books .stocks)
     ∷ same (w .ring) (now .ring)
     ∷ eqb (w .marks .at) (now .marks .at)
     ∷ eqb (w .marks .held) (now .marks .held)
     ∷ [])
 
 unfoldable pub holding : World → ℕ → World
-holding w n = record { table = w .table; ring = w .ring; marks = record { at = w .marks .at; held = n } }
+holding w n = record { books = w .books; ring = w .ring; marks = record { at = w .marks .at; held = n } }
 
 -- what went before is done, the entry is answered so, the message is this, byte by byte, and the orders are left so
 unfoldable pub holds : Case → Bool
@@ -109,7 +110,7 @@ holds c =
     ∷ eqb (answerNumber (r .answer)) (c .answer)
     ∷ same (drop (c .held) (held (r .world .ring) (r .world .marks))) (c .message)
     ∷ unlessDone (c .answer) w (r .world)
-    ∷ every (map (leftIs (w .table) (r .world .table)) (c .left))
+    ∷ every (map (leftIs (w .books .table) (r .world .books .table)) (c .left))
     ∷ [])
 
 unfoldable pub allHold : List Case → Bool

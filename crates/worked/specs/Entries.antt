@@ -69,6 +69,10 @@ late name = text "l" ++ stamp ++ token name
 unfoldable pub crossDone : String → List ℕ
 crossDone name = text "f" ++ stamp ++ token name
 
+-- symbol, state (Ask 2)
+unfoldable pub halt : String → String → List ℕ
+halt symbol state = text "h" ++ stamp ++ text symbol ++ text state
+
 -- ---- an entry with one field changed
 
 unfoldable pub stampedAt : ℕ → List ℕ → List ℕ
@@ -123,6 +127,10 @@ selfMatched = entered then selfMatch "A" 50
 -- the same in the closing cross, and late
 unfoldable pub enteredLate : List (List ℕ)
 enteredLate = begun then enter "A" 500 10_000 99_999 "C" then execute "A" 100 then late "A"
+
+-- ABC is halted
+unfoldable pub haltedThen : List (List ℕ) → List (List ℕ)
+haltedThen es = es then halt "ABC     " "H"
 
 -- the day is over
 unfoldable pub closing : List (List ℕ)

@@ -9,3 +9,4 @@ pub mod Replay
 pub mod Edges
 pub mod Odds
 pub mod Places
+pub mod Halts

@@ -13,13 +13,13 @@ use Rattle.table.specs.Fresh.{freshAnswer, freshTable}
 use Rattle.outbox.specs.Outbox.{readRun, releaseAnswer, releaseMarks, ringWith}
 use Rattle.outbox.specs.declared.marks.Marks.{Marks}
 use Rattle.host.specs.Step.{step, world}
-use Rattle.worked.specs.Play.{settings, practice, small, play}
+use Rattle.worked.specs.Play.{settings, practice, oneStock, small, play}
 use Rattle.worked.specs.Entries.{token, finish, enter, good, replace, cancel, prioritise, crossDone, _then_, entered, enteredLate, full}
 
 -- ---- a table that is sound, and one byte changed
 
 unfoldable pub someTable : List ℕ
-someTable = play small full .world .table
+someTable = play small full .world .books .table
 
 unfoldable pub damaged : ℕ → ℕ → List ℕ
 damaged at b = set someTable at b
@@ -57,16 +57,16 @@ marks at n = record { at = at; held = n }
 
 -- to the end of the day, over a table, a ring of r bytes, its place and its count
 unfoldable pub answerOver : List ℕ → ℕ → ℕ → ℕ → ℕ
-answerOver t r at n = answerNumber (step (world t (zeros r) (marks at n)) finish .answer)
+answerOver t r at n = answerNumber (step (world t (zeros r) (marks at n) oneStock) finish .answer)
 
 -- to an entry where the next reference is the last, 10^18
 unfoldable pub answerAtEnd : List ℕ → ℕ
 answerAtEnd e =
     let w = play small entered .world in
-    answerNumber (step (world (put (w .table) 16 (digits 8 1_000_000_000_000_000_000)) (w .ring) (w .marks)) e .answer)
+    answerNumber (step (world (put (w .books .table) 16 (digits 8 1_000_000_000_000_000_000)) (w .ring) (w .marks) (w .books .stocks)) e .answer)
 
 unfoldable pub flagsAfter : List (List ℕ) → ℕ
-flagsAfter es = orderNamed (play small es .world .table) (token "A") .flags
+flagsAfter es = orderNamed (play small es .world .books .table) (token "A") .flags
 
 unfoldable pub stepOdds : List Bool
 stepOdds =

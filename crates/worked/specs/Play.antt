@@ -13,7 +13,7 @@ use Rattle.header.specs.declared.settings.Settings.{Settings}
 use Rattle.orders.specs.Limits.{recordSize}
 use Rattle.table.specs.Fresh.{freshTable}
 use Rattle.outbox.specs.Outbox.{held, releaseMarks}
-use Rattle.host.specs.Step.{World, step}
+use Rattle.host.specs.Step.{World, world, step}
 
 -- ---- a host
 
@@ -29,14 +29,18 @@ settings threshold firms count =
       count = count;
     }
 
--- fresh, with n records and a ring of r bytes
+-- one stock, ABC, which trades (Ask 2)
+unfoldable pub oneStock : List ℕ
+oneStock = text "ABC     T"
+
+-- fresh, with n records, a ring of r bytes and that stock
 unfoldable pub host : Settings → ℕ → ℕ → World
-host s n r =
-    record {
-      table = freshTable (zeros (headerSize + recordSize * n)) s;
-      ring = zeros r;
-      marks = record { at = 0; held = 0 };
-    }
+host s n r = world (freshTable (zeros (headerSize + recordSize * n)) s) (zeros r) (record { at = 0; held = 0 }) oneStock
+
+-- the same with another list
+infixl 68 _lending_
+unfoldable pub _lending_ : World → List ℕ → World
+w lending stocks = world (w .books .table) (w .ring) (w .marks) stocks
 
 -- the paper's settings: threshold 1,000,000, firm ABCD
 unfoldable pub practice : Settings
@@ -55,7 +59,7 @@ pub record Played : Type 0 where
 
 unfoldable pub emptied : World → World
 emptied w =
-    record { table = w .table; ring = w .ring; marks = releaseMarks (length (w .ring)) (w .marks) (w .marks .held) }
+    record { books = w .books; ring = w .ring; marks = releaseMarks (length (w .ring)) (w .marks) (w .marks .held) }
 
 unfoldable pub play : World → List (List ℕ) → Played
 play w [] = record { answers = []; sent = []; world = w }

@@ -2,6 +2,9 @@
 
 #![deny(unsafe_code)]
 
+#[cfg(any(weighed, test))]
+mod find;
+mod list;
 mod plain;
 mod race;
 mod report;
@@ -32,7 +35,7 @@ fn main() -> ExitCode {
         return ExitCode::FAILURE;
     };
     if !cfg!(weighed) {
-        eprintln!("no libscales.a beside the archive: put and sound are left out");
+        eprintln!("no libscales.a beside the archive: sound, put and the list alone are left out");
     }
     println!("| what | proved | beside | its time | ratio | over {runs} runs | claim |");
     println!("|---|---|---|---|---|---|---|");
@@ -45,6 +48,7 @@ fn main() -> ExitCode {
 /// All rows, once.
 fn run() -> Vec<Row> {
     let mut rows: Vec<Row> = USED.into_iter().flat_map(rows::steps).collect();
+    rows.push(rows::step_over_a_long_list());
     #[cfg(weighed)]
     rows.extend(rows::weighed(USED));
     rows.extend(rows::release_alone());

@@ -1,10 +1,10 @@
-//! A table judged and searched, and a whole step over it, as a Rust programmer would by hand: what
-//! the proved step is held to.
+//! A table judged and searched, and a whole step over it and a list of stocks, as a Rust programmer
+//! would by hand: what the proved step is held to.
 
 use pilaqsevi::Marks;
 use second::Told;
 
-use crate::ring;
+use crate::{list, ring};
 
 const HEADER_LEN: usize = 64;
 const RECORD_LEN: usize = 80;
@@ -37,15 +37,19 @@ pub fn find(table: &[u8], token: &[u8; 14]) -> Option<usize> {
     used.iter().position(|record| record[1..15] == *token)
 }
 
-/// The whole step of a Modify: table, ring and entry judged, the order found, the rule decided,
-/// and record, header and message written. Another kind is answered 2, since none is measured.
+/// The whole step of a Modify: table, ring, list and entry judged, the order found, the rule
+/// decided, and record, header and message written. Another kind is answered 2, since none is
+/// measured.
 #[inline(never)]
-pub fn modify(table: &mut [u8], ring: &mut [u8], marks: &mut Marks, entry: &[u8]) -> Told {
-    if !judge(table) {
-        return answer(10);
-    }
-    if !ring::right(ring.len(), *marks) {
-        return answer(11);
+pub fn modify(
+    table: &mut [u8],
+    ring: &mut [u8],
+    marks: &mut Marks,
+    stocks: &[u8],
+    entry: &[u8],
+) -> Told {
+    if let Some(wrong) = wrong(table, ring.len(), *marks, stocks) {
+        return answer(wrong);
     }
     let Some(entry) = <&[u8; 28]>::try_from(entry).ok().filter(|e| e[0] == b'M') else {
         return answer(2);
@@ -71,6 +75,17 @@ pub fn modify(table: &mut [u8], ring: &mut [u8], marks: &mut Marks, entry: &[u8]
         record[15..20].copy_from_slice(&entry[23..28]);
     }
     answer(put)
+}
+
+/// What is wrong with what is lent, if anything.
+fn wrong(table: &[u8], ring_len: usize, marks: Marks, stocks: &[u8]) -> Option<u8> {
+    if !judge(table) {
+        return Some(10);
+    }
+    if !ring::right(ring_len, marks) {
+        return Some(11);
+    }
+    (!list::judge(stocks)).then_some(14)
 }
 
 /// An answer that has no place.
@@ -179,7 +194,7 @@ fn long_number<const N: usize>(bytes: &[u8; N], at: usize) -> u64 {
 mod tests {
     use pilaqsevi::Marks;
     use second::Host;
-    use second::tapes::{Chance, Tapes, damage, sound_table};
+    use second::tapes::{Chance, Tapes, damage, good_list, sound_table};
 
     use super::{find, judge, modify};
 
@@ -202,31 +217,36 @@ mod tests {
     #[test]
     fn modifies_as_the_second_host_does() {
         let (mut chance, mut tapes) = (Chance::new(3), Tapes::new(3));
-        let mut answered = [0; 14];
+        let mut answered = [0; 15];
         while answered.iter().sum::<u32>() < 20_000 {
             let records = 1 + chance.place(6);
             let mut table = sound_table(&mut chance, records);
             if chance.one_in(2) {
                 table[0] = 1;
             }
-            let entry = tapes.entry(&table);
+            let mut stocks = good_list(&mut chance, &table);
+            let entry = tapes.entry(&table, &stocks);
             if entry.first() != Some(&b'M') {
                 continue;
             }
             if chance.one_in(8) {
                 damage::table(&mut chance, &mut table);
             }
+            if chance.one_in(8) {
+                damage::stocks(&mut chance, &mut stocks);
+            }
             let mut ring = [0; 80];
             let (at, held) = (chance.place(81), chance.place(82));
             let mut marks = Marks { at, held };
             let mut right = (table.clone(), ring, at, held);
             let (t, r, a, h) = (&mut right.0, &mut right.1, &mut right.2, &mut right.3);
-            let told = second::step(t, r, a, h, &entry);
-            assert_eq!(modify(&mut table, &mut ring, &mut marks, &entry), told);
+            let told = second::step(t, r, a, h, &mut stocks, &entry);
+            let plain = modify(&mut table, &mut ring, &mut marks, &stocks, &entry);
+            assert_eq!(plain, told);
             assert!((table, ring, marks.at, marks.held) == right);
             answered[usize::from(told.answer)] += 1;
         }
-        for answer in [0, 1, 2, 3, 4, 9, 10, 11] {
+        for answer in [0, 1, 2, 3, 4, 9, 10, 11, 14] {
             assert!(answered[answer] > 20, "{answered:?}");
         }
     }

@@ -5,14 +5,14 @@ use std::hint::black_box;
 use std::time::Duration;
 
 use pilaqsevi::{Answer, Marks, echo, release, step};
-use second::{Host, Outbox};
+use second::{Host, Outbox, Stocks};
 
 use crate::plain;
 use crate::race::{CALLS, race, timed};
 use crate::ring;
+use crate::scene::{Scene, long_list};
 #[cfg(weighed)]
-use crate::scales;
-use crate::scene::Scene;
+use crate::{find, list, scales};
 
 /// A ring that has room for what a turn of steps sends.
 const RING_LEN: usize = 4_096;
@@ -49,8 +49,10 @@ pub fn steps(used: usize) -> Vec<Row> {
     let mut by_hand = Over::new(scene.clone());
     let mut host = Host::load(&scene.table).expect("the scene's table is sound");
     let mut outbox = Outbox::empty(RING_LEN).expect("the ring's length is right");
+    let mut listed = scene.stocks.clone();
+    let mut stocks = Stocks::over(&mut listed).expect("the scene's list is good");
     let [step, part, whole, kept] = race([
-        &mut || proved.steps(|table, ring, marks, entry| step(table, ring, marks, entry).number()),
+        &mut || proved.proved_steps(),
         &mut || {
             timed(|| {
                 let table = black_box(scene.table.as_slice());
@@ -58,16 +60,13 @@ pub fn steps(used: usize) -> Vec<Row> {
                 assert!(black_box(found));
             })
         },
-        &mut || {
-            by_hand
-                .steps(|table, ring, marks, entry| plain::modify(table, ring, marks, entry).answer)
-        },
+        &mut || by_hand.plain_steps(),
         &mut || {
             outbox.release(outbox.held());
             let mut entries = scene.to_and_fro.iter().cycle();
             timed(|| {
                 let entry = entries.next().expect("a cycle has no end");
-                assert_eq!(host.offer(&mut outbox, entry).answer, 0);
+                assert_eq!(host.offer(&mut outbox, &mut stocks, entry).answer, 0);
             })
         },
     ]);
@@ -81,11 +80,23 @@ pub fn steps(used: usize) -> Vec<Row> {
     ]
 }
 
-/// What a step calls, by itself: judging tables with so many used records, and a put.
+/// A step over the shortest table in use and the longest list, which is judged too.
+pub fn step_over_a_long_list() -> Row {
+    let mut scene = Scene::new(1);
+    scene.stocks = long_list();
+    let (mut proved, mut by_hand) = (Over::new(scene.clone()), Over::new(scene));
+    let [step, whole] = race([&mut || proved.proved_steps(), &mut || by_hand.plain_steps()]);
+    let what = "step, 1 used, list of 2000";
+    Row::new(what, step, "plain, the same job", whole, None)
+}
+
+/// What a step calls, by itself: judging tables with so many used records, judging and searching a
+/// list, and a put.
 #[cfg(weighed)]
 pub fn weighed(used: impl IntoIterator<Item = usize>) -> Vec<Row> {
     let sounds = used.into_iter().map(sound_alone);
-    sounds.chain(put_alone()).collect()
+    let lists = [judge_alone(), find_alone()];
+    sounds.chain(lists).chain(put_alone()).collect()
 }
 
 #[cfg(weighed)]
@@ -98,6 +109,45 @@ fn sound_alone(used: usize) -> Row {
     let claim = (used > 1).then_some(0.6);
     let what = format!("sound, {used} used");
     Row::new(&what, proved, "plain, judged alike", other, claim)
+}
+
+/// The longest list judged. A good one is judged to its end.
+#[cfg(weighed)]
+fn judge_alone() -> Row {
+    let stocks = long_list();
+    let [proved, other] = race([
+        &mut || timed(|| assert!(scales::stocks_good(black_box(&stocks)))),
+        &mut || timed(|| assert!(black_box(list::judge(black_box(&stocks))))),
+    ]);
+    let what = "judge a list, 2000 places";
+    Row::new(what, proved, "plain: one pass of u64", other, Some(1.0))
+}
+
+/// Symbols looked for in the longest list. Each turn goes on where the last one ended, so that both
+/// come upon the same symbols and no turn is like another.
+#[cfg(weighed)]
+fn find_alone() -> Row {
+    let stocks = long_list();
+    let symbols = find::wanted(&stocks);
+    let alike = |symbol| scales::standing(&stocks, symbol) == find::standing(&stocks, symbol);
+    assert!(symbols.iter().all(alike));
+    let (mut one, mut other) = (symbols.iter().cycle(), symbols.iter().cycle());
+    let [proved, plain] = race([
+        &mut || {
+            timed(|| {
+                let symbol = black_box(one.next().expect("a cycle has no end"));
+                black_box(scales::standing(black_box(&stocks), symbol));
+            })
+        },
+        &mut || {
+            timed(|| {
+                let symbol = black_box(other.next().expect("a cycle has no end"));
+                black_box(find::standing(black_box(&stocks), symbol));
+            })
+        },
+    ]);
+    let what = "find in a list, 2000 places";
+    Row::new(what, proved, "plain: binary_search_by", plain, Some(1.0))
 }
 
 /// A put beside a deque, which judges nothing, and beside a ring by hand that judges alike.
@@ -207,16 +257,31 @@ impl Over {
         Over { scene, ring }
     }
 
+    /// A turn of proved steps.
+    fn proved_steps(&mut self) -> Duration {
+        self.steps(|table, ring, marks, stocks, entry| {
+            step(table, ring, marks, stocks, entry).number()
+        })
+    }
+
+    /// A turn of the same steps by hand.
+    fn plain_steps(&mut self) -> Duration {
+        self.steps(|table, ring, marks, stocks, entry| {
+            plain::modify(table, ring, marks, stocks, entry).answer
+        })
+    }
+
     /// A turn of steps that are done.
     fn steps(
         &mut self,
-        mut step: impl FnMut(&mut [u8], &mut [u8], &mut Marks, &[u8]) -> u8,
+        mut step: impl FnMut(&mut [u8], &mut [u8], &mut Marks, &mut [u8], &[u8]) -> u8,
     ) -> Duration {
-        let mut entries = self.scene.to_and_fro.iter().cycle();
+        let Over { scene, ring } = self;
+        let mut entries = scene.to_and_fro.iter().cycle();
         let mut marks = Marks::default();
         timed(|| {
             let entry = entries.next().expect("a cycle has no end");
-            let answer = step(&mut self.scene.table, &mut self.ring, &mut marks, entry);
+            let answer = step(&mut scene.table, ring, &mut marks, &mut scene.stocks, entry);
             assert_eq!(answer, 0);
         })
     }

@@ -2,7 +2,7 @@
 
 #![allow(unsafe_code, reason = "the functions are C's")]
 
-use pilaqsevi::Marks;
+use pilaqsevi::{Marks, SYMBOL_SIZE};
 
 unsafe extern "C" {
     fn pq_sound(table: *const u8, table_len: usize) -> u8;
@@ -14,12 +14,31 @@ unsafe extern "C" {
         message: *const u8,
         message_len: usize,
     ) -> u8;
+    fn pq_stocks_good(stocks: *const u8, stocks_len: usize) -> u8;
+    fn pq_standing(
+        stocks: *const u8,
+        stocks_len: usize,
+        symbol: *const u8,
+        symbol_len: usize,
+    ) -> u8;
 }
 
 /// Whether the table is sound.
 pub fn sound(table: &[u8]) -> bool {
     // SAFETY: the pointer comes with its slice's length, and the function keeps none.
     unsafe { pq_sound(table.as_ptr(), table.len()) == 1 }
+}
+
+/// Whether the list of stocks is good.
+pub fn stocks_good(stocks: &[u8]) -> bool {
+    // SAFETY: the pointer comes with its slice's length, and the function keeps none.
+    unsafe { pq_stocks_good(stocks.as_ptr(), stocks.len()) == 1 }
+}
+
+/// How a symbol stands in the list: 0 not at all, 1 trading, 2 halted.
+pub fn standing(stocks: &[u8], symbol: &[u8; SYMBOL_SIZE]) -> u8 {
+    // SAFETY: both pointers come with their slices' lengths, and the function keeps none.
+    unsafe { pq_standing(stocks.as_ptr(), stocks.len(), symbol.as_ptr(), symbol.len()) }
 }
 
 /// The number that putting the message behind the held bytes is answered with.

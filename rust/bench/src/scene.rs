@@ -1,4 +1,5 @@
-//! What is measured on: tables with so many live orders, and a legal message of each kind.
+//! What is measured on: tables with so many live orders, a short and a long list of stocks, and a
+//! legal message of each kind.
 
 use second::tapes::{Chance, message};
 use second::{echo, fresh, step};
@@ -7,20 +8,23 @@ use second::{echo, fresh, step};
 const RECORDS: usize = 800;
 /// The stamp of all entries; an equal stamp is never too low.
 const STAMP: [u8; 8] = 1_u64.to_be_bytes();
+/// A list of the one stock that every order is in, and it trades.
+const ONE_STOCK: &[u8; 9] = b"IBM     T";
 /// The shares of every order.
 const SHARES: [u8; 4] = 500_u32.to_be_bytes();
 
-/// A table, the token of its last used record, and two Modify entries for that token which change
-/// its side to and fro: each is done for ever, after a search of all used records.
+/// A table, a list, the token of the table's last used record, and two Modify entries for that
+/// token which change its side to and fro: each is done for ever, after a search of all used records.
 #[derive(Clone)]
 pub struct Scene {
     pub table: Vec<u8>,
+    pub stocks: Vec<u8>,
     pub token: [u8; 14],
     pub to_and_fro: [Vec<u8>; 2],
 }
 
 impl Scene {
-    /// A day that is open, with so many live orders to sell.
+    /// A day that is open, with so many live orders to sell, all in the one stock that is listed.
     pub fn new(used: usize) -> Scene {
         let mut table = vec![0; 64 + 80 * RECORDS];
         assert_eq!(fresh(&mut table, 1_000_000, &[*b"ABCD"]), 0);
@@ -32,6 +36,7 @@ impl Scene {
         let modify = |side| [b"M".as_slice(), &STAMP, &token, side, &SHARES].concat();
         Scene {
             table,
+            stocks: ONE_STOCK.to_vec(),
             token,
             to_and_fro: [modify(b"T"), modify(b"S")],
         }
@@ -40,8 +45,8 @@ impl Scene {
 
 /// An entry that the table takes, its message thrown away.
 fn offer(table: &mut [u8], entry: &[u8]) {
-    let (mut at, mut held) = (0, 0);
-    let told = step(table, &mut [0; 80], &mut at, &mut held, entry);
+    let (mut at, mut held, mut stocks) = (0, 0, *ONE_STOCK);
+    let told = step(table, &mut [0; 80], &mut at, &mut held, &mut stocks, entry);
     assert_eq!(told.answer, 0);
 }
 
@@ -70,6 +75,22 @@ fn enter(token: &[u8; 14]) -> Vec<u8> {
     .concat()
 }
 
+/// The longest list: names of capitals, far apart, of which every seventh is halted.
+pub fn long_list() -> Vec<u8> {
+    let letters: [u32; 3] = [26 * 26, 26, 1];
+    let place = |number: u32| {
+        let mut place = *b"   STOCKT";
+        for (byte, letter) in place.iter_mut().zip(letters) {
+            *byte = b'A' + (8 * number / letter % 26) as u8;
+        }
+        if number.is_multiple_of(7) {
+            place[8] = b'H';
+        }
+        place
+    };
+    (0..2_000).flat_map(place).collect()
+}
+
 /// A legal message of each of the sixteen kinds, inbound ones first.
 pub fn messages() -> Vec<(bool, Vec<u8>)> {
     let mut chance = Chance::new(1);
@@ -88,14 +109,14 @@ pub fn messages() -> Vec<(bool, Vec<u8>)> {
 
 #[cfg(test)]
 mod tests {
-    use super::{RECORDS, Scene, messages};
-    use crate::plain;
+    use super::{RECORDS, Scene, long_list, messages};
+    use crate::{list, plain};
 
     #[test]
     fn a_scene_goes_on_for_ever() {
         for used in [1, 100, RECORDS] {
             let mut scene = Scene::new(used);
-            assert!(plain::judge(&scene.table));
+            assert!(plain::judge(&scene.table) && list::judge(&scene.stocks));
             assert_eq!(plain::find(&scene.table, &scene.token), Some(used - 1));
             let first = scene.table.clone();
             for _ in 0..3 {
@@ -105,6 +126,12 @@ mod tests {
                 assert!(scene.table == first);
             }
         }
+    }
+
+    #[test]
+    fn the_longest_list_is_good() {
+        let list = long_list();
+        assert!(list.len() == 18_000 && list::judge(&list));
     }
 
     #[test]

@@ -14,6 +14,8 @@ pub enum Command {
     Table(Vec<u8>),
     /// Sets the ring and its marks.
     Ring { ring: Vec<u8>, marks: Marks },
+    /// Sets the list of stocks.
+    Stocks(Vec<u8>),
     /// Fresh over the present table.
     Fresh(Settings),
     /// Offers an entry.
@@ -43,12 +45,14 @@ pub struct Echo {
     pub fill: u8,
 }
 
-/// A command in one line: its name, and what it was given. Tables and rings are told with the desk.
+/// A command in one line: its name, and what it was given. Tables, rings and lists are told with
+/// the desk.
 impl Display for Command {
     fn fmt(&self, f: &mut Formatter) -> fmt::Result {
         match self {
             Command::Table(table) => write!(f, "table of {} bytes", table.len()),
             Command::Ring { ring, .. } => write!(f, "ring of {} bytes", ring.len()),
+            Command::Stocks(stocks) => write!(f, "list of stocks of {} bytes", stocks.len()),
             Command::Fresh(settings) => {
                 let firms = hex(settings.firms.as_flattened());
                 let Settings {

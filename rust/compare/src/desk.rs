@@ -1,4 +1,4 @@
-//! A desk: a table, a ring and its marks, at which a host obeys commands.
+//! A desk: a table, a ring and its marks and a list of stocks, at which a host obeys commands.
 
 use pilaqsevi::Marks;
 
@@ -11,6 +11,7 @@ use crate::host::{Host, Told};
 pub struct Desk {
     pub table: Vec<u8>,
     pub ring: Vec<u8>,
+    pub stocks: Vec<u8>,
     pub marks: Marks,
 }
 
@@ -24,17 +25,18 @@ impl Desk {
                 self.ring.clone_from(ring);
                 self.marks = *marks;
             }
+            Command::Stocks(stocks) => self.stocks.clone_from(stocks),
             Command::Fresh(settings) => {
                 let firms = listed(settings);
                 left.push(host.fresh(&mut self.table, settings.threshold, &firms));
                 left.extend(&self.table);
             }
             Command::Step(entry) => {
-                let Desk { table, ring, marks } = self;
-                tell(host.step(table, ring, marks, entry), left);
+                tell(self.step(host, entry), left);
                 self.tell_marks(left);
                 left.extend(&self.table);
                 left.extend(&self.ring);
+                left.extend(&self.stocks);
             }
             Command::Release(k) => {
                 left.push(host.release(self.ring.len(), &mut self.marks, *k));
@@ -51,6 +53,24 @@ impl Desk {
                 left.extend(out);
             }
         }
+    }
+
+    /// Offers an entry to the host here, and gives what it tells.
+    pub fn step(&mut self, host: &impl Host, entry: &[u8]) -> Told {
+        let Desk {
+            table,
+            ring,
+            stocks,
+            marks,
+        } = self;
+        host.step(table, ring, marks, stocks, entry)
+    }
+
+    /// What was put behind so many held bytes.
+    pub fn sent_since(&self, held: usize) -> Vec<u8> {
+        let at = |place: usize| (self.marks.at + place) % self.ring.len();
+        let places = held..self.marks.held;
+        places.map(|place| self.ring[at(place)]).collect()
     }
 
     fn tell_marks(&self, left: &mut Vec<u8>) {

@@ -6,7 +6,7 @@ use std::fmt::{self, Display, Formatter};
 use crate::command::{Command, hex};
 use crate::desk::Desk;
 
-/// Tables and rings up to this length are shown whole.
+/// Tables, rings and lists up to this length are shown whole.
 const SHOWN: usize = 1_024;
 
 /// A command that left something else than expected.
@@ -27,7 +27,12 @@ impl Display for Difference {
     fn fmt(&self, f: &mut Formatter) -> fmt::Result {
         let equal = self.expected.iter().zip(&self.left);
         let place = equal.take_while(|(right, wrong)| right == wrong).count();
-        let Desk { table, ring, marks } = &self.before;
+        let Desk {
+            table,
+            ring,
+            stocks,
+            marks,
+        } = &self.before;
         writeln!(
             f,
             "the hosts differ at command {} of the script",
@@ -39,6 +44,7 @@ impl Display for Difference {
         writeln!(f, "  command  {}", self.command)?;
         writeln!(f, "  table    {}", shown(table))?;
         writeln!(f, "  ring     {}", shown(ring))?;
+        writeln!(f, "  stocks   {}", shown(stocks))?;
         write!(f, "  marks    at {}, held {}", marks.at, marks.held)
     }
 }
@@ -46,7 +52,7 @@ impl Display for Difference {
 impl Difference {
     /// What stands at this place of what the command leaves.
     fn part(&self, place: usize) -> String {
-        let table = self.before.table.len();
+        let (table, ring) = (self.before.table.len(), self.before.ring.len());
         match (&self.command, place) {
             (Command::Read, 0..4) => "the run's length".into(),
             (Command::Read, _) => format!("the run, byte {}", place - 4),
@@ -57,7 +63,8 @@ impl Difference {
             (_, 1..9) => "the place of the bad byte".into(),
             (Command::Echo(_), _) => format!("the written message, byte {}", place - 9),
             (_, _) if place - 25 < table => in_table(place - 25),
-            (_, _) => format!("the ring, byte {}", place - 25 - table),
+            (_, _) if place - 25 - table < ring => format!("the ring, byte {}", place - 25 - table),
+            (_, _) => in_stocks(place - 25 - table - ring),
         }
     }
 }
@@ -72,6 +79,15 @@ fn in_table(place: usize) -> String {
             records % 80
         ),
     }
+}
+
+/// A place of the list of stocks as the paper counts it.
+fn in_stocks(place: usize) -> String {
+    format!(
+        "the list of stocks, place {}, byte {}",
+        place / 9,
+        place % 9
+    )
 }
 
 /// The first byte, which is mostly the answer, and the byte at the place.

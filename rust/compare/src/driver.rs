@@ -1,11 +1,11 @@
 //! The driver: a seeded script that looks at the second host's desk before each next command.
 //!
-//! The script is a row of days. A day has a table of its own, made fresh or by hand, and a ring,
-//! mostly so tight that entries are blocked; between its entries the desk is read and released,
-//! damaged and mended.
+//! The script is a row of days. A day has a table of its own, made fresh or by hand, a ring, mostly
+//! so tight that entries are blocked, and a list of stocks, most of which trade; between its entries
+//! the desk is read and released, damaged and mended.
 
 use pilaqsevi::Marks;
-use second::tapes::{Chance, Tapes, damage, message, settings, sound_table, worn_out};
+use second::tapes::{Chance, Tapes, damage, good_list, message, settings, sound_table, worn_out};
 
 use crate::command::{Command, Echo, Settings};
 use crate::desk::Desk;
@@ -25,8 +25,8 @@ const MOST_RECORDS: usize = 800;
 /// The longest ring, and the longest entry and message that are tried: longer than any kind has.
 const LONGEST_RING: usize = 65_536;
 const LONGEST_TRIED: usize = 1_024;
-/// What the steps of a usual day may come to in bytes, since each shows the whole table and ring,
-/// and about what one over a short table and ring shows.
+/// What the steps of a usual day may come to in bytes, since each shows the whole table, ring and
+/// list, and about what one over short ones shows.
 const DAY: usize = 200_000;
 const SHORT_STEP: usize = 500;
 /// So many entries refused in a row end a day: the next one has more to show.
@@ -60,10 +60,12 @@ impl<S: Sink> Driver<S> {
         Ok(driver.tally)
     }
 
-    /// One day: a table, a ring, and entries until the table is worn out or the day is long enough.
+    /// One day: a table, a ring, a list of stocks, and entries until the table is worn out or the
+    /// day is long enough.
     fn day(&mut self, entries: u64) -> Told<()> {
         self.lay_table()?;
         self.lay_ring()?;
+        self.lay_stocks()?;
         let mut tapes = Tapes::new(self.chance.number());
         let drains_once_in = self.chance.pick(&[1, 2, 5, u64::MAX]);
         let mut refused_in_a_row = 0;
@@ -89,10 +91,16 @@ impl<S: Sink> Driver<S> {
         Ok(())
     }
 
-    /// How many entries a day has: few with a long table or ring, and now and then more.
+    /// How many entries a day has: few with a long table, ring or list, and now and then more.
     fn day_length(&mut self) -> usize {
         let bytes = if self.chance.one_in(20) { 3 * DAY } else { DAY };
-        let shown = self.desk.table.len() + self.desk.ring.len();
+        let Desk {
+            table,
+            ring,
+            stocks,
+            ..
+        } = &self.desk;
+        let shown = table.len() + ring.len() + stocks.len();
         (bytes / shown).clamp(3, DAY / SHORT_STEP)
     }
 
@@ -101,8 +109,9 @@ impl<S: Sink> Driver<S> {
         match self.chance.below(100) {
             0..=3 => self.spoil_table(tapes),
             4..=5 => self.spoil_ring(tapes),
-            6 => self.fresh_aside(),
-            7..=31 => self.echo(),
+            6..=8 => self.spoil_stocks(tapes),
+            9 => self.fresh_aside(),
+            10..=34 => self.echo(),
             _ => Ok(()),
         }
     }
@@ -180,9 +189,16 @@ impl<S: Sink> Driver<S> {
         Ok(())
     }
 
+    /// A good list, mostly of few stocks.
+    fn lay_stocks(&mut self) -> Told<()> {
+        let stocks = good_list(&mut self.chance, &self.desk.table);
+        self.give(&Command::Stocks(stocks))?;
+        Ok(())
+    }
+
     /// The tape's next entry; seldom a longer one than any kind has.
     fn next_entry(&mut self, tapes: &mut Tapes) -> Vec<u8> {
-        let mut entry = tapes.entry(&self.desk.table);
+        let mut entry = tapes.entry(&self.desk.table, &self.desk.stocks);
         if self.chance.one_in(400) {
             entry.resize(self.chance.place(LONGEST_TRIED + 1), b' ');
         } else if self.chance.one_in(40) {
@@ -303,6 +319,22 @@ impl<S: Sink> Driver<S> {
         Ok(())
     }
 
+    /// Steps over a damaged list, sometimes with a spoilt ring or table too: only the first fault in
+    /// the paper's order may be told. Then puts the list back.
+    fn spoil_stocks(&mut self, tapes: &mut Tapes) -> Told<()> {
+        let kept = self.desk.stocks.clone();
+        let mut spoilt = kept.clone();
+        damage::stocks(&mut self.chance, &mut spoilt);
+        self.give(&Command::Stocks(spoilt))?;
+        match self.chance.below(6) {
+            0 => self.spoil_ring(tapes)?,
+            1 => self.spoil_table(tapes)?,
+            _ => self.offer_spoilt(tapes)?,
+        }
+        self.give(&Command::Stocks(kept))?;
+        Ok(())
+    }
+
     /// A message for the readers and writers, with buffers around its length.
     fn echo(&mut self) -> Told<()> {
         let (inbound, mut message) = message(&mut self.chance);
@@ -339,9 +371,14 @@ impl<S: Sink> Driver<S> {
     /// Gives one command to the second host and then to the sink; the answer, where it has one.
     fn give(&mut self, command: &Command) -> Told<u8> {
         self.expected.clear();
+        let held = self.desk.marks.held;
         self.desk.obey(&Second, command, &mut self.expected);
         self.tally.count(command, &self.expected);
         self.sink.take(command, &self.expected)?;
-        Ok(self.expected.first().copied().unwrap_or(DONE))
+        let answer = self.expected.first().copied().unwrap_or(DONE);
+        if let (Command::Step(entry), DONE) = (command, answer) {
+            self.tally.count_done(entry, &self.desk.sent_since(held));
+        }
+        Ok(answer)
     }
 }

@@ -6,7 +6,14 @@ pub use second::Told;
 /// The paper's calls; an answer is the paper's number, and a step and an echo tell a place with it.
 pub trait Host {
     fn fresh(&self, table: &mut [u8], threshold: u32, firms: &[[u8; 4]]) -> u8;
-    fn step(&self, table: &mut [u8], ring: &mut [u8], marks: &mut Marks, entry: &[u8]) -> Told;
+    fn step(
+        &self,
+        table: &mut [u8],
+        ring: &mut [u8],
+        marks: &mut Marks,
+        stocks: &mut [u8],
+        entry: &[u8],
+    ) -> Told;
     fn read<'a>(&self, ring: &'a [u8], marks: Marks) -> &'a [u8];
     fn release(&self, ring_len: usize, marks: &mut Marks, k: usize) -> u8;
     fn echo(&self, inbound: bool, message: &[u8], out: &mut [u8]) -> Told;
@@ -20,8 +27,15 @@ impl Host for Second {
         second::fresh(table, threshold, firms)
     }
 
-    fn step(&self, table: &mut [u8], ring: &mut [u8], marks: &mut Marks, entry: &[u8]) -> Told {
-        second::step(table, ring, &mut marks.at, &mut marks.held, entry)
+    fn step(
+        &self,
+        table: &mut [u8],
+        ring: &mut [u8],
+        marks: &mut Marks,
+        stocks: &mut [u8],
+        entry: &[u8],
+    ) -> Told {
+        second::step(table, ring, &mut marks.at, &mut marks.held, stocks, entry)
     }
 
     fn read<'a>(&self, ring: &'a [u8], marks: Marks) -> &'a [u8] {
@@ -52,8 +66,15 @@ impl Host for Proved {
         pilaqsevi::fresh(table, threshold, firms).number()
     }
 
-    fn step(&self, table: &mut [u8], ring: &mut [u8], marks: &mut Marks, entry: &[u8]) -> Told {
-        told(pilaqsevi::step(table, ring, marks, entry))
+    fn step(
+        &self,
+        table: &mut [u8],
+        ring: &mut [u8],
+        marks: &mut Marks,
+        stocks: &mut [u8],
+        entry: &[u8],
+    ) -> Told {
+        told(pilaqsevi::step(table, ring, marks, stocks, entry))
     }
 
     fn read<'a>(&self, ring: &'a [u8], marks: Marks) -> &'a [u8] {

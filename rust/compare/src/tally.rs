@@ -1,13 +1,13 @@
-//! A tally of a script: how many calls of each kind, how often each answer was right, and at how many
-//! places a byte was bad.
+//! A tally of a script: how many calls of each kind, how often each answer was right, at how many
+//! places a byte was bad, and what was done.
 
-use std::collections::BTreeSet;
+use std::collections::{BTreeMap, BTreeSet};
 use std::fmt::{self, Display, Formatter};
 
 use crate::command::Command;
 
 /// The answers that a call can give, and the one that has a place.
-const ANSWERS: usize = 14;
+const ANSWERS: usize = 15;
 const BAD_FIELD: usize = 3;
 
 /// What has been asked and answered so far.
@@ -22,6 +22,10 @@ pub struct Tally {
     pub entry_places: BTreeSet<(u8, u64)>,
     /// Those that echoes told, each by whether the message was inbound, its type and its place.
     pub message_places: BTreeSet<(bool, u8, u64)>,
+    /// The done entries by their kinds.
+    pub done: BTreeMap<String, u64>,
+    /// The Rejected messages that they sent, by kind and reason.
+    pub rejects: BTreeMap<String, u64>,
     /// What the calls left in all, every byte of which was compared.
     pub bytes: u64,
 }
@@ -47,7 +51,17 @@ impl Tally {
                 }
             }
             Command::Read => self.reads += 1,
-            Command::Table(_) | Command::Ring { .. } => {}
+            Command::Table(_) | Command::Ring { .. } | Command::Stocks(_) => {}
+        }
+    }
+
+    /// Counts a done entry and the message that it sent, if any.
+    pub fn count_done(&mut self, entry: &[u8], sent: &[u8]) {
+        let kind = entry.first().copied().map_or('?', char::from);
+        *self.done.entry(kind.to_string()).or_default() += 1;
+        if let [b'J', .., reason] = sent {
+            let what = format!("{kind} {}", char::from(*reason));
+            *self.rejects.entry(what).or_default() += 1;
         }
     }
 
@@ -82,6 +96,13 @@ impl Display for Tally {
                 .collect();
             write!(f, "{}), ", listed.join(", "))?;
         }
-        write!(f, "{} reads; {} bytes compared", self.reads, self.bytes)
+        write!(f, "{} reads; ", self.reads)?;
+        for (what, counts) in [("done", &self.done), ("rejected", &self.rejects)] {
+            let listed = counts
+                .iter()
+                .map(|(what, count)| format!("{what}: {count}"));
+            write!(f, "{what} ({}), ", listed.collect::<Vec<_>>().join(", "))?;
+        }
+        write!(f, "{} bytes compared", self.bytes)
     }
 }

@@ -153,15 +153,15 @@ impl Broken {
     fn after_refused(
         &self,
         answer: u8,
-        desk: (&mut [u8], &mut [u8], &mut Marks),
+        desk: (&mut [u8], &mut [u8], &mut Marks, &mut [u8]),
         entry: &[u8],
     ) -> u8 {
-        let (table, ring, marks) = desk;
+        let (table, ring, marks, stocks) = desk;
         match (self.fault, answer) {
             (Some(Fault::DropsTheOldest), 9) => {
                 marks.at = (marks.at + marks.held) % ring.len();
                 marks.held = 0;
-                return Second.step(table, ring, marks, entry).answer;
+                return Second.step(table, ring, marks, stocks, entry).answer;
             }
             (Some(Fault::WritesHalfOfOne), 9) => {
                 marks.held = ring.len();
@@ -169,7 +169,7 @@ impl Broken {
             }
             (Some(Fault::StoresTheTokenFirst), 9) => {
                 let (mut roomy, mut none) = ([0; 80], Marks::default());
-                Second.step(table, &mut roomy, &mut none, entry);
+                Second.step(table, &mut roomy, &mut none, stocks, entry);
             }
             (Some(Fault::LetsACancelRaise), 1) if entry[0] == b'X' => {
                 if let Some(at) = row(table, &entry[9..23]) {
@@ -262,13 +262,20 @@ impl Host for Broken {
         answer
     }
 
-    fn step(&self, table: &mut [u8], ring: &mut [u8], marks: &mut Marks, entry: &[u8]) -> Told {
+    fn step(
+        &self,
+        table: &mut [u8],
+        ring: &mut [u8],
+        marks: &mut Marks,
+        stocks: &mut [u8],
+        entry: &[u8],
+    ) -> Told {
         let entry = self.misread(table, entry);
-        let mut told = Second.step(table, ring, marks, &entry);
+        let mut told = Second.step(table, ring, marks, stocks, &entry);
         if told.answer == 0 {
             self.after_done(table, ring, *marks, &entry);
         } else {
-            told.answer = self.after_refused(told.answer, (table, ring, marks), &entry);
+            told.answer = self.after_refused(told.answer, (table, ring, marks, stocks), &entry);
         }
         let kind = entry.first().copied().unwrap_or(0);
         // An inbound message counts from its type, and its entry has a stamp there.

@@ -1,14 +1,18 @@
-//! Damaged tables, rings, marks and entries, through the archive: both hosts answer alike, and what
-//! is refused changes nothing.
+//! Damaged tables, rings, marks, lists of stocks and entries, through the archive: both hosts
+//! answer alike, and what is refused changes nothing.
 
 use std::fmt::Write;
 
 use compare::{Desk, Host, Proved, Second};
 use pilaqsevi::Marks;
-use second::tapes::{Chance, Tapes, damage, sound_table};
+use second::tapes::{Chance, Tapes, damage, good_list, sound_table};
 
 /// The last stamp of a day: no legal last stamp is above it.
 const LAST_STAMP: u64 = 86_399_999_999_999;
+
+/// A list: of the first two only the last bytes of their symbols differ, and the third symbol is no
+/// stock's.
+const STOCKS: &[u8; 27] = b"IBM     TIBM    \x80H\x80\0 ib-  T";
 
 /// A table of four records: a live order, a dead one, a rejected token, and one that is unused.
 fn table() -> Vec<u8> {
@@ -48,16 +52,22 @@ fn enter(place: usize) -> Vec<u8> {
     .concat()
 }
 
+/// This table with an empty ring and a list of three stocks, of which the order's is one.
+fn desk_over(table: Vec<u8>) -> Desk {
+    Desk {
+        table,
+        ring: vec![0; 80],
+        stocks: STOCKS.to_vec(),
+        ..Desk::default()
+    }
+}
+
 /// What both hosts answer to an entry at this desk, with the same place; they leave every byte and
 /// mark alike, and a refusal changes none.
 fn alike(proved: &Proved, desk: &Desk, entry: &[u8]) -> u8 {
-    let step = |host: &dyn Host, after: &mut Desk| {
-        let Desk { table, ring, marks } = after;
-        host.step(table, ring, marks, entry)
-    };
     let (mut after, mut right) = (desk.clone(), desk.clone());
-    let told = step(proved, &mut after);
-    assert_eq!(told, step(&Second, &mut right), "{desk:?} {entry:?}");
+    let told = after.step(proved, entry);
+    assert_eq!(told, right.step(&Second, entry), "{desk:?} {entry:?}");
     assert!(after == right, "{desk:?} {entry:?}");
     assert!(told.answer == 0 || after == *desk, "{desk:?} {entry:?}");
     told.answer
@@ -83,11 +93,7 @@ fn survivors(proved: &Proved, desk: &mut Desk, at: usize, entry: &[u8]) -> (usiz
 #[cfg_attr(not(archive), ignore = "no archive of the proved functions is linked")]
 fn each_byte_of_a_table_is_damaged_in_every_way() -> std::fmt::Result {
     let proved = Proved::linked().unwrap();
-    let mut desk = Desk {
-        table: table(),
-        ring: vec![0; 80],
-        marks: Marks::default(),
-    };
+    let mut desk = desk_over(table());
     let mut listing = String::from("sound and found of 255 values a byte\n");
     for (part, at, bytes, record) in [
         ("header", 0, 64, 2),
@@ -119,18 +125,76 @@ fn a_cut_table_is_a_table_where_the_paper_says_so() {
     let proved = Proved::linked().unwrap();
     let whole = table();
     let sound = |length: &usize| {
-        let desk = Desk {
-            table: whole[..*length].to_vec(),
-            ring: vec![0; 80],
-            marks: Marks::default(),
-        };
+        let desk = desk_over(whole[..*length].to_vec());
         alike(&proved, &desk, &enter(0)) != 10
     };
     let lengths: Vec<usize> = (0..=whole.len()).filter(sound).collect();
     assert_eq!(lengths, [304, 384]);
 }
 
-/// A sound table, a right ring with right marks, and an entry that mostly makes sense there.
+/// Of the 255 other values of each byte, how many leave the list good. The first symbol's bytes may
+/// fall, and its last one be any below 128. The second's may rise, the first of them to 127 only,
+/// and its last be any above a space. The third's first byte must stay above the second's, and its
+/// others may be any. A state has one other letter.
+const GOOD: [[usize; 9]; 3] = [
+    [73, 66, 77, 32, 32, 32, 32, 127, 1],
+    [54, 189, 178, 223, 223, 223, 223, 222, 1],
+    [181, 255, 255, 255, 255, 255, 255, 255, 1],
+];
+
+#[test]
+#[cfg_attr(not(archive), ignore = "no archive of the proved functions is linked")]
+fn each_byte_of_a_list_is_damaged_in_every_way() {
+    let proved = Proved::linked().unwrap();
+    let mut desk = desk_over(table());
+    let halt = [b"h".as_slice(), &LAST_STAMP.to_be_bytes(), b"IBM     H"].concat();
+    for (at, &good) in GOOD.as_flattened().iter().enumerate() {
+        let whole = desk.stocks[at];
+        let mut stays = 0;
+        for by in 1..=255 {
+            desk.stocks[at] = whole.wrapping_add(by);
+            // A new order and a halt in what was the first stock, listed still or not.
+            let answer = alike(&proved, &desk, &enter(3));
+            assert_eq!(answer == 14, alike(&proved, &desk, &halt) == 14);
+            stays += usize::from(answer != 14);
+        }
+        desk.stocks[at] = whole;
+        assert_eq!(stays, good, "byte {at}");
+    }
+}
+
+/// Of all shorter lengths only those of whole places are a list's.
+#[test]
+#[cfg_attr(not(archive), ignore = "no archive of the proved functions is linked")]
+fn a_cut_list_is_a_list_where_the_paper_says_so() {
+    let proved = Proved::linked().unwrap();
+    let mut desk = desk_over(table());
+    let good = |length: &usize| {
+        desk.stocks = STOCKS[..*length].to_vec();
+        alike(&proved, &desk, &enter(3)) != 14
+    };
+    let lengths: Vec<usize> = (0..=STOCKS.len()).filter(good).collect();
+    assert_eq!(lengths, [0, 9, 18, 27]);
+}
+
+/// The longest list, one place more, and one byte more or less.
+#[test]
+#[cfg_attr(not(archive), ignore = "no archive of the proved functions is linked")]
+fn a_list_of_2_000_places_is_the_longest() {
+    let proved = Proved::linked().unwrap();
+    let place = |number: u64| [number.to_be_bytes().as_slice(), b"T"].concat();
+    let all: Vec<u8> = (0..2_002).flat_map(place).collect();
+    let mut desk = desk_over(table());
+    for length in (17_982..=18_018).chain([0, 9]) {
+        desk.stocks = all[..length].to_vec();
+        let wrong = length > 18_000 || length % 9 != 0;
+        let answer = alike(&proved, &desk, &enter(3));
+        assert_eq!(answer == 14, wrong, "{length}");
+    }
+}
+
+/// A sound table, a right ring with right marks, a good list, and an entry that mostly makes sense
+/// there.
 fn case(chance: &mut Chance, tapes: &mut Tapes) -> (Desk, Vec<u8>) {
     let records = 1 + chance.place(8);
     let table = sound_table(chance, records);
@@ -143,18 +207,25 @@ fn case(chance: &mut Chance, tapes: &mut Tapes) -> (Desk, Vec<u8>) {
         at: chance.place(length),
         held: chance.place(length + 1),
     };
-    let entry = tapes.entry(&table);
+    let stocks = good_list(chance, &table);
+    let entry = tapes.entry(&table, &stocks);
     let ring = vec![chance.byte(); length];
-    (Desk { table, ring, marks }, entry)
+    let desk = Desk {
+        table,
+        ring,
+        stocks,
+        marks,
+    };
+    (desk, entry)
 }
 
-/// Of table, ring, marks and entry one or several are damaged; the first in the paper's order is
-/// told.
+/// Of table, ring, marks, list and entry one or several are damaged; the first in the paper's order
+/// is told.
 #[test]
 #[cfg_attr(not(archive), ignore = "no archive of the proved functions is linked")]
 fn damage_at_random_is_answered_alike_and_changes_nothing() {
     let proved = Proved::linked().unwrap();
-    let mut answered = [0; 14];
+    let mut answered = [0; 15];
     for seed in 1..=4 {
         let (mut chance, mut tapes) = (Chance::new(seed), Tapes::new(seed));
         for _ in 0..25_000 {
@@ -169,6 +240,9 @@ fn damage_at_random_is_answered_alike_and_changes_nothing() {
                 let Marks { at, held } = &mut desk.marks;
                 damage::marks(&mut chance, desk.ring.len(), at, held);
             }
+            if chance.one_in(4) {
+                damage::stocks(&mut chance, &mut desk.stocks);
+            }
             if chance.one_in(3) {
                 entry = damage::misread(&mut chance, entry);
             }
@@ -176,7 +250,7 @@ fn damage_at_random_is_answered_alike_and_changes_nothing() {
             released_alike(&proved, &desk, &mut chance);
         }
     }
-    for answer in [0, 1, 2, 3, 4, 5, 7, 8, 9, 10, 11] {
+    for answer in [0, 1, 2, 3, 4, 5, 7, 8, 9, 10, 11, 14] {
         assert!(answered[answer] > 100, "{answered:?}");
     }
 }

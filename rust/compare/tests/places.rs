@@ -2,10 +2,9 @@
 //! any two judged bytes bad at once, beside the second host.
 
 use compare::{Desk, Host, Proved, Second, Told};
-use pilaqsevi::Marks;
 use second::tapes::judged::{ENTRIES, of_entry, places};
 
-/// A legal stamp and token, which every kind but s opens with.
+/// A legal stamp and token, which every kind but s and h opens with.
 const OPENING: &[u8] = b"\0\0\0\0\0\0\0\x02Az 09 aZ  zA1 ";
 
 /// A legal entry of this kind.
@@ -23,6 +22,7 @@ fn legal(kind: u8) -> Vec<u8> {
     };
     match kind {
         b's' => [b"s", &OPENING[..8], b"S"].concat(),
+        b'h' => [b"h", &OPENING[..8], b"IBM     T"].concat(),
         _ => [&[kind], OPENING, rest].concat(),
     }
 }
@@ -34,18 +34,11 @@ fn alike(proved: &Proved, entry: &[u8]) -> Told {
     let desk = Desk {
         table,
         ring: vec![0; 80],
-        marks: Marks::default(),
+        stocks: b"IBM     T".to_vec(),
+        ..Desk::default()
     };
-    let step = |host: &dyn Host| {
-        let Desk {
-            mut table,
-            mut ring,
-            mut marks,
-        } = desk.clone();
-        host.step(&mut table, &mut ring, &mut marks, entry)
-    };
-    let told = step(proved);
-    assert_eq!(told, step(&Second), "{entry:?}");
+    let told = desk.clone().step(proved, entry);
+    assert_eq!(told, desk.clone().step(&Second, entry), "{entry:?}");
     assert_eq!(told.place > 0, told.answer == 3, "{entry:?}");
     told
 }

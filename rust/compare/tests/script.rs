@@ -52,7 +52,7 @@ impl Sink for &mut Seen {
             }
             Command::Fresh(_) => _ = self.what.insert(format!("F {answer}")),
             Command::Release(_) => _ = self.what.insert(format!("L {answer}")),
-            Command::Read | Command::Table(_) | Command::Ring { .. } => {}
+            Command::Read | Command::Table(_) | Command::Ring { .. } | Command::Stocks(_) => {}
         }
         Ok(())
     }
@@ -70,9 +70,7 @@ impl Seen {
             .insert(format!("records {}", (self.desk.table.len() - 64) / 80));
         let Marks { at, held } = self.before.marks;
         let len = self.desk.ring.len();
-        let sent: Vec<u8> = (held..self.desk.marks.held)
-            .map(|place| self.desk.ring[(at + place) % len])
-            .collect();
+        let sent = self.desk.sent_since(held);
         let letter = sent.first().map_or('-', |&letter| char::from(letter));
         let reason = match letter {
             'J' => char::from(sent[23]),
@@ -81,14 +79,45 @@ impl Seen {
         };
         if answer == 0 {
             self.what.insert(format!("{kind} {letter}{reason}"));
+            self.note_stock(entry, &format!("{kind} {letter}{reason}"));
             let start = (at + held) % len;
             if start + sent.len() > len {
                 self.what.insert(format!("{letter} wraps"));
             }
             if self.desk.marks.held == len {
                 self.what.insert("ring full".into());
+                self.what.insert(format!("ring full, {kind} done"));
             }
         }
+    }
+
+    /// How the stock of a done O or U stood in the list, and what a done h found there.
+    fn note_stock(&mut self, entry: &[u8], done: &str) {
+        let Desk { table, stocks, .. } = &self.before;
+        let (places, day) = (stocks.len() / 9, table[0]);
+        let state = |symbol: &[u8]| {
+            let mut places = stocks.chunks_exact(9);
+            let place = places.find(|place| place[..8] == *symbol);
+            place.map_or('-', |place| char::from(place[8]))
+        };
+        let stands = match entry[0] {
+            b'O' => state(&entry[28..36]),
+            b'U' => {
+                let mut records = table[64..].chunks_exact(80);
+                let old = records.find(|record| record[1..15] == entry[9..23]);
+                state(&old.expect("done, so it is there")[28..36])
+            }
+            b'h' => {
+                let set = char::from(entry[17]);
+                self.what
+                    .insert(format!("h from {} to {set}", state(&entry[9..17])));
+                _ = self.what.insert(format!("h on day {day}"));
+                '-'
+            }
+            _ => return,
+        };
+        self.what.insert(format!("{done} in {stands}"));
+        self.what.insert(format!("{places} listed"));
     }
 }
 
@@ -113,8 +142,9 @@ fn answers_by_kind() -> Vec<String> {
         ('l', &[5, 7]),
         ('f', &[5, 7, 9]),
         ('s', &[7, 9]),
+        ('h', &[5]),
     ] {
-        let always = [0, 2, 3, 4, 10, 11];
+        let always = [0, 2, 3, 4, 10, 11, 14];
         let all = always.iter().chain(answers);
         wanted.extend(all.map(|answer| format!("S {kind} {answer}")));
     }
@@ -123,11 +153,45 @@ fn answers_by_kind() -> Vec<String> {
 
 /// Every message that an entry can send, by its reason where it has one.
 fn messages_by_kind() -> Vec<String> {
-    let sends = "O A /U JC/U JR/U CU/U U /X CU/X P /X I /M M /e E /q D /p T /l - /f - /f CU/s S ";
-    let rejects = "CLSRDXZN".chars().map(|reason| format!("O J{reason}"));
+    let sends =
+        "O A /U JC/U JR/U JH/U CU/U U /X CU/X P /X I /M M /e E /q D /p T /l - /f - /f CU/s S /h - ";
+    let rejects = "CLSHRDXZN".chars().map(|reason| format!("O J{reason}"));
     let cancels = "ITSDZE".chars().map(|reason| format!("c C{reason}"));
     let sends = sends.split('/').map(String::from);
     sends.chain(rejects).chain(cancels).collect()
+}
+
+/// All that the list has to do with an O, a U or an h: a stock that trades, is halted or isn't
+/// listed, with each message that this decides, and those that come before it is asked for.
+fn stocks() -> Vec<String> {
+    let mut wanted: Vec<String> = [
+        "O A  in T",
+        "O JS in -",
+        "O JS in T",
+        "O JS in H",
+        "O JH in H",
+        "O JC in H",
+        "O JL in H",
+        "U U  in T",
+        "U U  in -",
+        "U JH in H",
+        "U JR in H",
+        "U JC in H",
+        "U CU in T",
+        "U CU in -",
+        "h from T to H",
+        "h from H to T",
+        "h from T to T",
+        "h from H to H",
+        "h on day 0",
+        "h on day 1",
+        "h on day 2",
+        "ring full, h done",
+    ]
+    .map(String::from)
+    .to_vec();
+    wanted.extend([0, 1, 2, 3, 6, 1_999, 2_000].map(|places| format!("{places} listed")));
+    wanted
 }
 
 /// Both directions of all messages, with each answer that an echo has.
@@ -144,8 +208,8 @@ fn echoes() -> Vec<String> {
 
 #[test]
 fn a_script_reaches_every_answer_message_and_reason() {
-    let seen = seen(1, 40_000);
-    let mut wanted = [answers_by_kind(), messages_by_kind(), echoes()].concat();
+    let seen = seen(1, 60_000);
+    let mut wanted = [answers_by_kind(), messages_by_kind(), stocks(), echoes()].concat();
     wanted.extend("AUCDEJPITM".chars().map(|letter| format!("{letter} wraps")));
     wanted.extend((1..=8).map(|records| format!("records {records}")));
     wanted.extend(["records 800", "ring full"].map(String::from));
@@ -180,20 +244,36 @@ fn a_script_reaches_every_place() {
         let places = places(judged::of_message(inbound, letter)).into_iter();
         unseen.extend(places.map(|place| (Some(inbound), letter, place as u64)));
     }
-    assert_eq!(unseen.len(), 174 + 254);
+    assert_eq!(unseen.len(), 176 + 254);
     unseen.retain(|&(echoed, kind, place)| match echoed {
         None => !tally.entry_places.contains(&(kind, place)),
         Some(inbound) => !tally.message_places.contains(&(inbound, kind, place)),
     });
     assert!(unseen.is_empty(), "never seen: {unseen:?}");
     let told = tally.to_string();
-    assert!(told.contains(" at 174 places"), "{told}");
+    assert!(told.contains(" at 176 places"), "{told}");
     assert!(told.contains(" at 254 places"), "{told}");
+}
+
+/// Orders are mostly accepted as before, and yet often rejected for their stocks.
+#[test]
+fn a_script_rejects_often_and_does_more() {
+    let tally = Driver::drive(4, 100_000, Unheard).unwrap();
+    let rejected: u64 = tally.rejects.values().sum();
+    let done = tally.done["O"] + tally.done["U"];
+    assert!(rejected < 2 * (done - rejected), "{tally}");
+    for (what, often) in [("O S", 500), ("O H", 500), ("U H", 50), ("U R", 50)] {
+        assert!(tally.rejects[what] > often, "{tally}");
+    }
+    assert!(
+        tally.done["h"] > 2_000 && tally.steps[14] > 1_000,
+        "{tally}"
+    );
 }
 
 /// Lengths above the paper's are tried too.
 #[test]
-fn a_script_goes_beyond_the_longest_table_and_ring() {
+fn a_script_goes_beyond_the_longest_table_ring_and_list() {
     let script = script(2, 40_000);
     let longest = |length: fn(&Command) -> usize| script.iter().map(length).max();
     let table = longest(|command| match command {
@@ -204,5 +284,10 @@ fn a_script_goes_beyond_the_longest_table_and_ring() {
         Command::Ring { ring, .. } => ring.len(),
         _ => 0,
     });
-    assert_eq!((table, ring), (Some(64_144), Some(65_537)));
+    assert!(table >= Some(64_144) && ring == Some(65_537));
+    let too_long = |command: &Command| match command {
+        Command::Stocks(stocks) => stocks.len() == 9 * 2_001,
+        _ => false,
+    };
+    assert!(script.iter().any(too_long));
 }

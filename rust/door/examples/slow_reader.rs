@@ -13,6 +13,8 @@ use pilaqsevi::{Answer, Desk, MOST_RECORDS, SHORTEST_RING, Settings, entry_lengt
 const SLOW: usize = 12;
 /// A ring with room for many messages.
 const ROOMY: usize = 4_096;
+/// The only stock that is listed, and it trades.
+const STOCKS: &[u8] = b"ABC     T";
 
 fn main() -> ExitCode {
     if let Some(why) = pilaqsevi::absent() {
@@ -31,12 +33,14 @@ fn main() -> ExitCode {
 fn play() -> io::Result<()> {
     let mut tape = Vec::new();
     io::stdin().read_to_end(&mut tape)?;
-    let small = send(&tape, SHORTEST_RING, &mut io::stderr())?;
-    let roomy = send(&tape, ROOMY, &mut io::sink())?;
+    let (small, desk) = send(&tape, SHORTEST_RING, &mut io::stderr())?;
+    let (roomy, other) = send(&tape, ROOMY, &mut io::sink())?;
     io::stdout().write_all(&small)?;
-    if small != roomy {
+    // The list belongs to what is left at the end, since halts change it.
+    let alike = desk.table() == other.table() && desk.stocks() == other.stocks();
+    if small != roomy || !alike {
         return Err(io::Error::other(
-            "through a roomy ring something else is sent",
+            "through a roomy ring something else is sent or left",
         ));
     }
     eprintln!(
@@ -46,14 +50,14 @@ fn play() -> io::Result<()> {
     Ok(())
 }
 
-/// All that a host with a ring of so many bytes sends for a tape.
-fn send(mut tape: &[u8], ring: usize, told: &mut impl Write) -> io::Result<Vec<u8>> {
+/// All that a host with a ring of so many bytes sends for a tape, and the host's desk at its end.
+fn send(mut tape: &[u8], ring: usize, told: &mut impl Write) -> io::Result<(Vec<u8>, Desk)> {
     let settings = Settings {
         threshold: 1_000_000,
         firms: &[*b"ABCD"],
     };
     let refused = |answer| io::Error::other(format!("no desk, {answer}"));
-    let mut desk = Desk::new(settings, MOST_RECORDS, ring).map_err(refused)?;
+    let mut desk = Desk::new(settings, MOST_RECORDS, ring, STOCKS).map_err(refused)?;
     let mut sent = Vec::new();
     let mut answer = Answer::Done;
     while let (true, Some(&kind)) = (answer != Answer::Malformed, tape.first()) {
@@ -64,7 +68,7 @@ fn send(mut tape: &[u8], ring: usize, told: &mut impl Write) -> io::Result<Vec<u
         tape = rest;
     }
     while take(&mut desk, &mut sent) > 0 {}
-    Ok(sent)
+    Ok((sent, desk))
 }
 
 /// Offers an entry, and where it is blocked lets the reader make room and offers it again: it is

@@ -30,7 +30,7 @@ pub enum Answer {
     },
     /// The stamp is below the last one.
     TooEarly,
-    /// The token isn't live.
+    /// The token isn't live or, of a halt, the symbol isn't listed.
     NotLive,
     /// Shares are 0 or above what is open.
     WrongShares,
@@ -49,6 +49,8 @@ pub enum Answer {
     NotHeld,
     /// The buffer is too short for the echo's message.
     NoRoom,
+    /// The list of stocks is too long, not of whole places, not ascending or has another state.
+    WrongStocks,
     /// Number 3 as well: a bad threshold or bad firms. Only a fresh table has settings, and they have
     /// no place. It stands last so that the others' order is their numbers'.
     BadSettings,
@@ -73,6 +75,7 @@ impl Answer {
             Answer::WrongRing => 11,
             Answer::NotHeld => 12,
             Answer::NoRoom => 13,
+            Answer::WrongStocks => 14,
         }
     }
 
@@ -112,6 +115,7 @@ impl Answer {
             11 => Answer::WrongRing,
             12 => Answer::NotHeld,
             13 => Answer::NoRoom,
+            14 => Answer::WrongStocks,
             _ => no_answer(number, 0),
         }
     }
@@ -145,7 +149,7 @@ impl Answer {
             Answer::BadField { .. } => "bad byte",
             Answer::BadSettings => "bad setting",
             Answer::TooEarly => "stamp below the last",
-            Answer::NotLive => "token not live",
+            Answer::NotLive => "token not live or symbol not listed",
             Answer::WrongShares => "shares 0 or above open",
             Answer::WrongMoment => "wrong moment",
             Answer::Full => "no record or reference left",
@@ -154,6 +158,7 @@ impl Answer {
             Answer::WrongRing => "wrong ring length or marks",
             Answer::NotHeld => "more than is held",
             Answer::NoRoom => "buffer too short",
+            Answer::WrongStocks => "list of stocks wrong",
         }
     }
 }
@@ -182,7 +187,7 @@ mod tests {
 
     #[test]
     fn each_answer_is_the_answer_of_its_number() {
-        for number in 0..14 {
+        for number in 0..15 {
             assert_eq!(Answer::of(number).number(), number);
             assert_eq!(Answer::of(number).place(), 0);
             assert_eq!(Answer::at(number, 0).number(), number);
@@ -207,15 +212,16 @@ mod tests {
             (Answer::at(2, 0), "2: unknown kind or wrong length"),
             (Answer::at(9, 0), "9: blocked"),
             (Answer::of(12), "12: more than is held"),
+            (Answer::at(14, 0), "14: list of stocks wrong"),
         ] {
             assert_eq!(answer.to_string(), printed);
         }
     }
 
     #[test]
-    #[should_panic(expected = "answered 14 at 0")]
+    #[should_panic(expected = "answered 15 at 0")]
     fn no_answer_has_a_higher_number() {
-        let _ = Answer::of(14);
+        let _ = Answer::of(15);
     }
 
     #[test]

@@ -1,22 +1,26 @@
-//! The door to the proved host: slices in, answers out, and a [`Desk`] that owns its memory.
+//! The door to the proved host: slices in, answers out, a [`Host`] over lent memory, and a [`Desk`]
+//! that owns its memory.
 //!
 //! The functions are proved, compiled to an archive by `rt staticlib port` and linked by cargo.
-//! Each is total: it has an answer for every table, ring, pair of marks and entry, sound or not,
-//! and only [`Answer::Done`] changes anything.
+//! Each is total: it has an answer for every table, ring, pair of marks, list of stocks and entry,
+//! sound or not, and only [`Answer::Done`] changes anything.
 //!
-//! A [`Desk`] is the usual way in. The calls below it take memory that is the caller's own, as
-//! `include/pilaqsevi.h` does for C.
+//! A [`Desk`] is the usual way in, and a [`Host`] the one for memory that is the caller's own. The
+//! calls below them take each buffer by itself, as `include/pilaqsevi.h` does for C.
 
 mod answer;
 mod desk;
+mod host;
 mod limits;
 mod raw;
 
 pub use answer::Answer;
 pub use desk::{Desk, Settings};
+pub use host::Host;
 pub use limits::{
     HEADER_SIZE, HIGHEST_THRESHOLD, LONGEST_ENTRY, LONGEST_MESSAGE, LONGEST_RING, MOST_FIRMS,
-    MOST_RECORDS, RECORD_SIZE, SHORTEST_RING, table_size,
+    MOST_RECORDS, MOST_STOCKS, RECORD_SIZE, SHORTEST_RING, STOCK_SIZE, SYMBOL_SIZE, stocks_size,
+    table_size,
 };
 
 /// What a place is before a call: every call writes it, and one that did not would be found out by
@@ -62,11 +66,21 @@ pub fn fresh(table: &mut [u8], threshold: u32, firms: &[[u8; 4]]) -> Answer {
 
 /// Offers one entry to the host that the table's bytes describe.
 ///
-/// A done entry changes the table and puts at most one message behind the ring's held bytes. A
+/// The list of stocks is 0 to 2,000 places, each a symbol of eight bytes and its state, T or H, and
+/// strictly ascending by the symbols' bytes, or the answer is [`Answer::WrongStocks`].
+///
+/// A done entry changes the table and puts at most one message behind the ring's held bytes; a done
+/// halt (h) sets one state of the list and sends nothing, and nothing else touches the list. A
 /// blocked one ([`Answer::Blocked`]) may be offered again once bytes have been released. A bad one
 /// ([`Answer::BadField`]) tells its first bad byte, counted from the kind as 0.
 #[inline]
-pub fn step(table: &mut [u8], ring: &mut [u8], marks: &mut Marks, entry: &[u8]) -> Answer {
+pub fn step(
+    table: &mut [u8],
+    ring: &mut [u8],
+    marks: &mut Marks,
+    stocks: &mut [u8],
+    entry: &[u8],
+) -> Answer {
     let mut place = UNTOLD;
     // SAFETY: each pointer comes with the length of its slice or is to one number, the borrows are
     // apart and last through the call, and the function keeps no pointer.
@@ -78,6 +92,8 @@ pub fn step(table: &mut [u8], ring: &mut [u8], marks: &mut Marks, entry: &[u8]) 
             ring.len(),
             &mut marks.at,
             &mut marks.held,
+            stocks.as_mut_ptr(),
+            stocks.len(),
             entry.as_ptr(),
             entry.len(),
             &mut place,

@@ -10,6 +10,11 @@ pub const MOST_RECORDS: usize = 800;
 pub const MOST_FIRMS: usize = 8;
 /// The highest threshold; the lowest is 1.
 pub const HIGHEST_THRESHOLD: u32 = 1_000_000;
+/// The bytes of a symbol, and of a place in a list of stocks: the symbol and its state, T or H.
+pub const SYMBOL_SIZE: usize = 8;
+pub const STOCK_SIZE: usize = SYMBOL_SIZE + 1;
+/// The most places of a list of stocks; it may have none.
+pub const MOST_STOCKS: usize = 2_000;
 /// The shortest ring, which has room for the longest message.
 pub const SHORTEST_RING: usize = 80;
 /// The longest ring.
@@ -22,4 +27,9 @@ pub const LONGEST_MESSAGE: usize = 80;
 /// The bytes of a table with so many records.
 pub const fn table_size(records: usize) -> usize {
     HEADER_SIZE + RECORD_SIZE * records
+}
+
+/// The bytes of a list with so many stocks.
+pub const fn stocks_size(stocks: usize) -> usize {
+    STOCK_SIZE * stocks
 }

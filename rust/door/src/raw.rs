@@ -33,7 +33,8 @@ archive! {
     /// Offers one entry, and tells its first bad byte.
     fn pq_step(
         table: *mut u8, table_len: usize, ring: *mut u8, ring_len: usize,
-        at: *mut usize, held: *mut usize, entry: *const u8, entry_len: usize, place: *mut usize
+        at: *mut usize, held: *mut usize, stocks: *mut u8, stocks_len: usize,
+        entry: *const u8, entry_len: usize, place: *mut usize
     ) -> u8;
 
     /// The length of the run that starts at `ring + at`.

@@ -12,6 +12,8 @@ pub enum Answer {
     BadSettings,
     StampBelowLast,
     NotLive,
+    /// 5 as well: the symbol of h isn't on the list.
+    NotListed,
     WrongShares,
     WrongMoment,
     NothingFree,
@@ -20,6 +22,7 @@ pub enum Answer {
     WrongMarks,
     ReleaseAboveHeld,
     BufferTooShort,
+    WrongStocks,
 }
 
 impl Answer {
@@ -31,7 +34,7 @@ impl Answer {
             Answer::WrongKindOrLength => 2,
             Answer::BadField(_) | Answer::BadSettings => 3,
             Answer::StampBelowLast => 4,
-            Answer::NotLive => 5,
+            Answer::NotLive | Answer::NotListed => 5,
             Answer::WrongShares => 6,
             Answer::WrongMoment => 7,
             Answer::NothingFree => 8,
@@ -40,6 +43,7 @@ impl Answer {
             Answer::WrongMarks => 11,
             Answer::ReleaseAboveHeld => 12,
             Answer::BufferTooShort => 13,
+            Answer::WrongStocks => 14,
         }
     }
 

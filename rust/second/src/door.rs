@@ -3,6 +3,7 @@
 use crate::answer::{Answer, Told};
 use crate::host::Host;
 use crate::outbox::{Marks, Outbox, run};
+use crate::stocks::Stocks;
 use crate::table::{HEADER_LEN, Header, Settings, record_count};
 
 /// Makes the table fresh: refuses a bad length with 10, then bad settings with 3. No place is told of
@@ -19,12 +20,14 @@ pub fn fresh(table: &mut [u8], threshold: u32, firms: &[[u8; 4]]) -> u8 {
     Answer::Done.number()
 }
 
-/// Offers one entry to the host that the table's bytes describe.
+/// Offers one entry to the host that the table's bytes describe: a table that isn't sound is 10, a
+/// wrong ring 11, a wrong list of stocks 14, and then the entry is judged.
 pub fn step(
     table: &mut [u8],
     ring: &mut [u8],
     at: &mut usize,
     held: &mut usize,
+    stocks: &mut [u8],
     entry: &[u8],
 ) -> Told {
     let Some(mut host) = Host::load(table) else {
@@ -33,7 +36,10 @@ pub fn step(
     let Some(mut outbox) = Outbox::over(ring, *at, *held) else {
         return Answer::WrongMarks.told();
     };
-    let told = host.offer(&mut outbox, entry);
+    let Some(mut stocks) = Stocks::over(stocks) else {
+        return Answer::WrongStocks.told();
+    };
+    let told = host.offer(&mut outbox, &mut stocks, entry);
     if told == Answer::Done.told() {
         *at = outbox.at();
         *held = outbox.held();

@@ -1,10 +1,11 @@
 //! Entries of a tape: one byte of kind, a stamp, and a body whose length the kind fixes.
 
 use crate::answer::Answer;
-use crate::field::{BookReason, Field, Flag, PriorityPrice, Stamp, SystemCode, Token};
+use crate::field::{BookReason, Field, Flag, PriorityPrice, Stamp, StockState, SystemCode, Token};
 use crate::layout::{Message, messages};
 use crate::messages::{Cancel, Enter, Modify, Replace};
 use crate::shares::Removed;
+use crate::stocks::Symbol;
 
 /// Where the stamp of every entry begins and ends.
 const STAMP_AT: usize = 1;
@@ -67,6 +68,13 @@ messages! {
         1 stamp: Stamp,
         9 code: SystemCode,
     }
+
+    /// A stock is halted, or trades again.
+    b'h' Halt 18 {
+        1 stamp: Stamp,
+        9 symbol: Symbol,
+        17 state: StockState,
+    }
 }
 
 /// An entry whose length, letters, tokens and stamp are legal.
@@ -83,6 +91,7 @@ pub enum Entry {
     LateBegins(LateBegins),
     CrossDone(CrossDone),
     System(System),
+    Halt(Halt),
 }
 
 impl Entry {
@@ -101,6 +110,7 @@ impl Entry {
             Some(b'l') => Entry::LateBegins(Message::read(bytes)?),
             Some(b'f') => Entry::CrossDone(Message::read(bytes)?),
             Some(b's') => Entry::System(Message::read(bytes)?),
+            Some(b'h') => Entry::Halt(Message::read(bytes)?),
             _ => return Err(Answer::WrongKindOrLength),
         })
     }
@@ -119,6 +129,7 @@ impl Entry {
             Entry::LateBegins(l) => l.stamp,
             Entry::CrossDone(f) => f.stamp,
             Entry::System(s) => s.stamp,
+            Entry::Halt(h) => h.stamp,
         }
     }
 }
@@ -156,6 +167,7 @@ pub fn entry_length(kind: u8) -> Option<usize> {
         b'l' => LateBegins::LEN,
         b'f' => CrossDone::LEN,
         b's' => System::LEN,
+        b'h' => Halt::LEN,
         _ => return None,
     })
 }

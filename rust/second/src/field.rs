@@ -107,6 +107,8 @@ judged_field! {
     BookReason(u8): |reason| first_unless(b"ITSDZE".contains(reason));
     /// The code of a system entry.
     SystemCode(u8): |code| first_unless(b"SE".contains(code));
+    /// The state of a listed stock: trading or halted.
+    StockState(u8): |state| first_unless(b"TH".contains(state));
     /// The price of a priority entry.
     PriorityPrice(u32): |price| first_unless((1..=HIGHEST_PRICE).contains(price));
 }

@@ -8,6 +8,7 @@ use crate::field::{Field, Stamp, Token};
 use crate::order::{Order, RECORD_LEN, Record};
 use crate::outbox::Outbox;
 use crate::rules::{Deed, decide};
+use crate::stocks::Stocks;
 use crate::table::{Day, HEADER_LEN, Header, LAST_REFERENCE, record_count};
 
 /// A sound table in the host's own structures.
@@ -76,24 +77,32 @@ impl Host {
     }
 
     /// Offers one entry; only the answer 0 changes anything.
-    pub fn offer<R>(&mut self, outbox: &mut Outbox<R>, entry: &[u8]) -> Told
+    pub fn offer<R>(&mut self, outbox: &mut Outbox<R>, stocks: &mut Stocks, entry: &[u8]) -> Told
     where
         R: AsRef<[u8]> + AsMut<[u8]>,
     {
-        Answer::of(self.take(outbox, entry)).told()
+        Answer::of(self.take(outbox, stocks, entry)).told()
     }
 
     /// What the entry comes to is decided without touching anything; then the room it needs is
     /// asked for; the outbox is last to refuse, and after it nothing can.
-    fn take<R>(&mut self, outbox: &mut Outbox<R>, entry: &[u8]) -> Result<(), Answer>
+    fn take<R>(
+        &mut self,
+        outbox: &mut Outbox<R>,
+        stocks: &mut Stocks,
+        entry: &[u8],
+    ) -> Result<(), Answer>
     where
         R: AsRef<[u8]> + AsMut<[u8]>,
     {
         let entry = Entry::read(entry)?;
-        let deed = decide(self, &entry)?;
+        let deed = decide(self, stocks, &entry)?;
         self.can_afford(&deed)?;
         if let Some(sent) = &deed.sends {
             outbox.put(sent.bytes())?;
+        }
+        if let Some((place, state)) = deed.sets {
+            stocks.set(place, state);
         }
         self.carry_out(entry.stamp(), deed);
         Ok(())

@@ -7,7 +7,7 @@
 //! - [`fresh`], [`step`], [`read`], [`release`]: the paper's calls over bytes, total on all inputs;
 //! - [`echo`]: reads one of the sixteen messages and writes it back;
 //! - [`Told`]: what a step or an echo says, the number and with 3 the first bad byte's place;
-//! - [`Host`] with [`Outbox`]: the same host kept between steps;
+//! - [`Host`] with [`Outbox`] and [`Stocks`]: the same host kept between steps;
 //! - [`listing`]: what the paper's program prints for a tape;
 //! - [`tapes`]: seeded random tapes, tables and damage for comparing hosts.
 
@@ -26,6 +26,7 @@ mod order;
 mod outbox;
 mod rules;
 mod shares;
+mod stocks;
 mod table;
 pub mod tapes;
 
@@ -35,9 +36,10 @@ mod tests;
 pub use answer::{Answer, Told};
 pub use door::{fresh, read, release, step};
 pub use echo::echo;
-pub use field::{Side, Stamp, Sweep, Token};
+pub use field::{Side, Stamp, StockState, Sweep, Token};
 pub use host::Host;
 pub use layout::{Fields, Message};
 pub use listing::listing;
 pub use outbox::Outbox;
 pub use shares::{Open, Removed, Total};
+pub use stocks::{Stocks, Symbol};

@@ -4,33 +4,37 @@ mod book;
 mod cancel;
 mod details;
 mod enter;
+mod halt;
 mod modify;
 mod replace;
 mod system;
 
 use crate::answer::Answer;
 use crate::entry::Entry;
-use crate::field::{Stamp, Token};
+use crate::field::{Stamp, StockState, Token};
 use crate::host::Host;
 use crate::layout::Message;
 use crate::messages::{Canceled, Rejected};
 use crate::order::{Order, Record};
 use crate::shares::Removed;
+use crate::stocks::Stocks;
 use crate::table::Day;
 
 /// The reason of a cancel that the client asked for.
 const USER_REQUESTED: u8 = b'U';
+/// The reason of a reject whose stock is halted.
+const HALTED: u8 = b'H';
 /// The longest outbound message, Replaced.
 const LONGEST_OUTBOUND: usize = 80;
 
 /// Answers 4 first; then the entry's own rule answers 1, 5, 7 or 6, or says what is to be done.
-pub fn decide(host: &Host, entry: &Entry) -> Result<Deed, Answer> {
+pub fn decide(host: &Host, stocks: &Stocks, entry: &Entry) -> Result<Deed, Answer> {
     if entry.stamp() < host.header.last_stamp {
         return Err(Answer::StampBelowLast);
     }
     match entry {
-        Entry::Enter(stamp, o) => enter::enter(host, *stamp, o),
-        Entry::Replace(stamp, u) => replace::replace(host, *stamp, u),
+        Entry::Enter(stamp, o) => enter::enter(host, stocks, *stamp, o),
+        Entry::Replace(stamp, u) => replace::replace(host, stocks, *stamp, u),
         Entry::Cancel(stamp, x) => cancel::cancel(host, *stamp, x),
         Entry::Modify(stamp, m) => modify::modify(host, *stamp, m),
         Entry::Execution(e) => book::execute(host, e),
@@ -40,6 +44,7 @@ pub fn decide(host: &Host, entry: &Entry) -> Result<Deed, Answer> {
         Entry::LateBegins(l) => book::late_begins(host, l),
         Entry::CrossDone(f) => book::cross_done(host, f),
         Entry::System(s) => system::system(host, s),
+        Entry::Halt(h) => halt::halt(stocks, h),
     }
 }
 
@@ -51,6 +56,8 @@ pub struct Deed {
     pub stores: Option<Record>,
     pub takes_reference: bool,
     pub day: Option<Day>,
+    /// A place of the list of stocks and its state.
+    pub sets: Option<(usize, StockState)>,
 }
 
 impl Deed {

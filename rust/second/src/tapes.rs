@@ -1,4 +1,5 @@
-//! Seeded random tapes: entries that mostly make sense against the table as it stands.
+//! Seeded random tapes: entries that mostly make sense against the table and the list of stocks as
+//! they stand.
 //!
 //! The makers below write bytes by the paper's tables and not by this host's layouts, so that a
 //! wrong layout shows. Nothing here judges; a maker may look at any bytes, sound or not.
@@ -8,12 +9,14 @@ pub mod damage;
 mod from_book;
 mod from_client;
 pub mod judged;
+mod lists;
 mod look;
 mod made;
 mod messages;
 mod values;
 
 pub use chance::Chance;
+pub use lists::good_list;
 pub use made::{settings, sound_table};
 pub use messages::message;
 
@@ -43,9 +46,9 @@ impl Tapes {
         }
     }
 
-    /// The next entry, for a host whose table has these bytes.
-    pub fn entry(&mut self, table: &[u8]) -> Vec<u8> {
-        let look = Look::at(table);
+    /// The next entry, for a host whose table and list of stocks have these bytes.
+    pub fn entry(&mut self, table: &[u8], stocks: &[u8]) -> Vec<u8> {
+        let look = Look::at(table, stocks);
         let entry = match self.chance.below(100) {
             0..=3 => self.sent_again(&look),
             4..=8 => self.sent_again_now(&look),
@@ -95,9 +98,15 @@ impl Tapes {
             (false, 0..=3) => 60,
             _ => 20,
         };
+        // A Replace seldom finds its order's stock halted, so there are more where it would.
+        let replaces = if look.live_and_halted().is_empty() {
+            24
+        } else {
+            48
+        };
         let kinds = [
             (enters, from_client::enter as Maker),
-            (18, from_client::replace),
+            (replaces, from_client::replace),
             (16, from_client::cancel),
             (10, from_client::modify),
             (12, from_book::execution),
@@ -106,6 +115,7 @@ impl Tapes {
             (4, from_book::priority),
             (7, from_book::late_begins),
             (6, from_book::cross_done),
+            (8, from_book::halt),
         ];
         chance.weighted(&kinds)(chance, look)
     }
@@ -114,7 +124,7 @@ impl Tapes {
 /// Whether little can happen to this table any more: nothing is live, and no order can be entered
 /// since the day is closed or no record is free. A driver then takes another table.
 pub fn worn_out(table: &[u8]) -> bool {
-    let look = Look::at(table);
+    let look = Look::at(table, &[]);
     look.live().is_empty() && (look.day() == 2 || look.full())
 }
 

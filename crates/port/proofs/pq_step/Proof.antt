@@ -6,14 +6,16 @@ use Rattle.port.proofs.pq_step.Tie as tie
 
 returns : tie.Need-returns
 returns c =
-    let leaves = c .before .before .before .before .before .before .before .step .ensures in
+    let after = c .before .before in
+    let leaves = after .before .before .before .before .before .before .before .step .ensures in
     record {
       numbered = c .number .ensures ∙ ap answerNumber (leaves .answered);
       placed = c .before .place .ensures ∙ ap answerPlace (leaves .answered);
       tabled = leaves .tabled;
       ringed = leaves .ringed;
       marked = leaves .marked;
+      listed = leaves .listed;
     }
 
 pub pq-step-spec : {M : Type 1} → statement M
-pq-step-spec = tie.close (tie.spec unasked unasked unasked (λ c. search needs) (λ c. search needs) returns)
+pq-step-spec = tie.close (tie.spec unasked unasked unasked (λ c. search needs) (λ c. search needs) (λ c. search needs) returns)

@@ -3,34 +3,38 @@
 use super::details::{
     NO_WEIGHT, accepted_time_in_force, bad_display, bad_minimum, bad_price, bad_shares,
 };
-use super::{Deed, Sent};
+use super::{Deed, HALTED, Sent};
 use crate::answer::Answer;
 use crate::field::{Stamp, capitals_then_spaces};
 use crate::host::Host;
 use crate::messages::{Accepted, Enter};
 use crate::order::{Flags, LIVE, Order, Record};
 use crate::shares::{Open, Total};
+use crate::stocks::Stocks;
 use crate::table::Firm;
 
-pub fn enter(host: &Host, stamp: Stamp, o: &Enter) -> Result<Deed, Answer> {
+pub fn enter(host: &Host, stocks: &Stocks, stamp: Stamp, o: &Enter) -> Result<Deed, Answer> {
     if host.used(o.token) {
         return Err(Answer::Ignored);
     }
     let firm = host.header.settings.meant_by(o.firm);
-    Ok(match fault(host, o, firm) {
+    Ok(match fault(host, stocks, o, firm) {
         Some(letter) => Deed::rejected(stamp, o.token, letter),
         None => accepted(host, stamp, o, firm),
     })
 }
 
 /// The letter of the first fault, in the paper's order.
-fn fault(host: &Host, o: &Enter, firm: Firm) -> Option<u8> {
+fn fault(host: &Host, stocks: &Stocks, o: &Enter, firm: Firm) -> Option<u8> {
     let settings = &host.header.settings;
     let all_open = Open(o.shares.0);
+    // A list may have symbols that no stock has, so that being listed isn't enough.
+    let known = capitals_then_spaces(&o.stock) && stocks.find(o.stock).is_some();
     let faults = [
         (!host.day_open(), b'C'),
         (!settings.firms.contains(&firm), b'L'),
-        (!capitals_then_spaces(&o.stock), b'S'),
+        (!known, b'S'),
+        (stocks.halted(o.stock), HALTED),
         (!b"NOC".contains(&o.cross), b'R'),
         (bad_display(o.display, o.cross), b'D'),
         (bad_price(o.price, o.cross), b'X'),

@@ -3,19 +3,20 @@
 use super::details::{
     NO_WEIGHT, accepted_time_in_force, bad_display, bad_minimum, bad_price, bad_shares,
 };
-use super::{Deed, Sent, USER_REQUESTED};
+use super::{Deed, HALTED, Sent, USER_REQUESTED};
 use crate::answer::Answer;
 use crate::field::Stamp;
 use crate::host::Host;
 use crate::messages::{Replace, Replaced};
 use crate::order::{Flags, LIVE, Order, Record};
+use crate::stocks::Stocks;
 
 /// The market is closed.
 const CLOSED: u8 = b'C';
 /// Not allowed so late before the cross.
 const TOO_LATE: u8 = b'R';
 
-pub fn replace(host: &Host, stamp: Stamp, u: &Replace) -> Result<Deed, Answer> {
+pub fn replace(host: &Host, stocks: &Stocks, stamp: Stamp, u: &Replace) -> Result<Deed, Answer> {
     let (place, old) = host.live(u.existing).ok_or(Answer::Ignored)?;
     if host.used(u.replacement) {
         return Err(Answer::Ignored);
@@ -25,6 +26,10 @@ pub fn replace(host: &Host, stamp: Stamp, u: &Replace) -> Result<Deed, Answer> {
     }
     if old.flags.late {
         return Ok(Deed::rejected(stamp, u.replacement, TOO_LATE));
+    }
+    // A stock that a table made by hand has and the list hasn't isn't halted.
+    if stocks.halted(old.stock) {
+        return Ok(Deed::rejected(stamp, u.replacement, HALTED));
     }
     if bad_details(host, &old, u) {
         let all = old.open().all();

@@ -1,4 +1,9 @@
-//! Damage to tables, marks, ring lengths and entries, mostly right at what the paper judges.
+//! Damage to tables, lists of stocks, marks, ring lengths and entries, mostly right at what the
+//! paper judges.
+
+mod list;
+
+pub use list::stocks;
 
 use super::chance::Chance;
 use super::judged::{self, Field, Judged};
@@ -9,7 +14,7 @@ const EDGE_BYTES: &[u8] = b"\0\x1f !/09:@AZ[`az{\x7f\x80\xff-";
 /// Those of them that no token holds.
 const BAD_CHARACTERS: &[u8] = b"\0\x1f!/:@[`{\x7f\x80\xff-";
 /// Letters of all fields, and some of none: each is legal in one place and bad in the next.
-const LETTERS: &[u8] = b"BSTEYNyUQXbse \0ARCLHKJVmkaItdzZDOMn";
+const LETTERS: &[u8] = b"BSTEYNyUQXbse \0ARCLHKJVmkaItdzZDOMnh";
 /// 10^18, and the shares of which a chain must stay below.
 const REFERENCES_END: u64 = 10_u64.pow(18);
 const SHARES_END: u32 = 1_000_000;
@@ -139,8 +144,8 @@ fn near(chance: &mut Chance, number: u32) -> u32 {
 }
 
 /// Writes where there is room, and nothing where there is none.
-fn write(table: &mut [u8], at: usize, bytes: &[u8]) {
-    if let Some(place) = table.get_mut(at..at + bytes.len()) {
+fn write(into: &mut [u8], at: usize, bytes: &[u8]) {
+    if let Some(place) = into.get_mut(at..at + bytes.len()) {
         place.copy_from_slice(bytes);
     }
 }
@@ -210,7 +215,11 @@ pub fn misread(chance: &mut Chance, mut entry: Vec<u8>) -> Vec<u8> {
     let any = chance.byte();
     match chance.below(16) {
         0 => write(&mut entry, 0, &[any]),
-        1 => write(&mut entry, 0, &[chance.pick(b"OUXMecqplfsSACDEBJPITGo\0")]),
+        1 => write(
+            &mut entry,
+            0,
+            &[chance.pick(b"OUXMecqplfshSACDEBJPITGHo\0")],
+        ),
         2 => wrong_length(chance, &mut entry),
         3 => {
             // Bad bytes in what has no right length: they mustn't be told.

@@ -1,4 +1,4 @@
-//! Entries that the book or the day brings: e c q p l f s.
+//! Entries that the book or the day brings: e c q p l f s h.
 
 use super::chance::Chance;
 use super::look::{Look, Row};
@@ -87,6 +87,36 @@ pub fn system(chance: &mut Chance, look: &Look) -> Vec<u8> {
         &[code],
     ]
     .concat()
+}
+
+/// Halts a stock, often one that an order is in, or lets one trade again.
+pub fn halt(chance: &mut Chance, look: &Look) -> Vec<u8> {
+    let (symbol, state) = halted_or_freed(chance, look);
+    let state = match chance.below(24) {
+        0 => chance.pick(b"thSX \0"),
+        1..=4 => chance.pick(b"TH"),
+        _ => state,
+    };
+    [
+        b"h".as_slice(),
+        &v::stamp(chance, look).to_be_bytes(),
+        &symbol,
+        &[state],
+    ]
+    .concat()
+}
+
+/// A symbol and the state that it is to have. What is halted is often freed soon, so that a day
+/// goes on as it would without halts.
+fn halted_or_freed(chance: &mut Chance, look: &Look) -> ([u8; 8], u8) {
+    let halted = !look.stocks_in(b'H').is_empty();
+    let row = chance.choose(&look.live()).copied();
+    match (chance.below(12), row) {
+        (0, _) => (v::near_symbol(chance, look), chance.pick(b"TH")),
+        (1..=4, _) if halted => (v::symbol_in(chance, look, b'H'), b'T'),
+        (5..=9, Some(row)) => (row.stock(), chance.pick(b"HHHT")),
+        _ => (v::symbol_in(chance, look, b'T'), b'H'),
+    }
 }
 
 /// Kind, stamp and token.

@@ -13,7 +13,7 @@ pub fn enter(chance: &mut Chance, look: &Look) -> Vec<u8> {
         &v::token_to_store(chance, look),
         &[chance.pick(b"BSTE")],
         &shares.to_be_bytes(),
-        &v::stock(chance),
+        &v::stock(chance, look),
         &v::price(chance).to_be_bytes(),
         &time_in_force.to_be_bytes(),
         &v::firm(chance, look),
@@ -48,7 +48,7 @@ fn add_faults(chance: &mut Chance, look: &Look, entry: &mut [u8]) {
 }
 
 pub fn replace(chance: &mut Chance, look: &Look) -> Vec<u8> {
-    let row = wanted(chance, look);
+    let row = to_replace(chance, look);
     let existing = v::token_to_name(chance, look, row);
     let replacement = if chance.one_in(25) {
         existing
@@ -70,6 +70,14 @@ pub fn replace(chance: &mut Chance, look: &Look) -> Vec<u8> {
         &minimum.to_be_bytes(),
     ]
     .concat()
+}
+
+/// A row as others want it; where some are in a halted stock, one of those half the time.
+fn to_replace<'a>(chance: &mut Chance, look: &Look<'a>) -> Option<Row<'a>> {
+    match chance.choose(&look.live_and_halted()) {
+        Some(&row) if chance.one_in(2) => Some(row),
+        _ => wanted(chance, look),
+    }
 }
 
 /// Often a total that replaces the order, so that chains grow; often one just too low.

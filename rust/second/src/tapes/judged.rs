@@ -23,9 +23,10 @@ const SWEEP: Judged = Letter(b"YNy");
 const FLAG: Judged = Letter(b"AROMCLHKJmkV");
 const REASON: Judged = Letter(b"ITSDZE");
 const CODE: Judged = Letter(b"SE");
+const STATE: Judged = Letter(b"TH");
 
 /// The kinds of entries.
-pub const ENTRIES: &[u8] = b"OUXMecqplfs";
+pub const ENTRIES: &[u8] = b"OUXMecqplfsh";
 /// The types of messages, inbound and outbound.
 pub const INBOUND: &[u8] = b"OUXM";
 pub const OUTBOUND: &[u8] = b"SAUCDEBJPITM";
@@ -42,6 +43,7 @@ pub fn of_entry(kind: u8) -> &'static [Field] {
         b'q' => &[(1, Stamp), (9, Token), (35, FLAG)],
         b'p' => &[(1, Stamp), (9, Token), (23, Price)],
         b's' => &[(1, Stamp), (9, CODE)],
+        b'h' => &[(1, Stamp), (17, STATE)],
         _ => &[],
     }
 }

@@ -1,19 +1,21 @@
-//! A look at a table's bytes, sound or not, by the paper's offsets.
+//! A look at the bytes of a table and of a list of stocks, good or not, by the paper's offsets.
 
 /// The bytes and how many records they can show.
 pub struct Look<'a> {
     table: &'a [u8],
+    stocks: &'a [u8],
     room: usize,
     used: usize,
 }
 
 impl<'a> Look<'a> {
     /// Looks at any bytes; what isn't there reads as zero.
-    pub fn at(table: &'a [u8]) -> Look<'a> {
+    pub fn at(table: &'a [u8], stocks: &'a [u8]) -> Look<'a> {
         let room = table.len().saturating_sub(64) / 80;
         let claimed = number(table, 4, 4) as usize;
         Look {
             table,
+            stocks,
             room,
             used: claimed.min(room),
         }
@@ -39,6 +41,19 @@ impl<'a> Look<'a> {
             .collect()
     }
 
+    /// The listed symbols and their states.
+    pub fn stocks(&self) -> Vec<([u8; 8], u8)> {
+        let places = self.stocks.chunks_exact(9);
+        places.map(|place| (bytes(place, 0), place[8])).collect()
+    }
+
+    /// Those of them in this state.
+    pub fn stocks_in(&self, state: u8) -> Vec<[u8; 8]> {
+        let mut stocks = self.stocks();
+        stocks.retain(|&(_, its)| its == state);
+        stocks.into_iter().map(|(symbol, _)| symbol).collect()
+    }
+
     /// Whether no record is free.
     pub fn full(&self) -> bool {
         self.used == self.room
@@ -54,6 +69,14 @@ impl<'a> Look<'a> {
     pub fn live(&self) -> Vec<Row<'a>> {
         let mut rows = self.records();
         rows.retain(|row| row.0[0] == b'L');
+        rows
+    }
+
+    /// Those of them whose stock is halted.
+    pub fn live_and_halted(&self) -> Vec<Row<'a>> {
+        let halted = self.stocks_in(b'H');
+        let mut rows = self.live();
+        rows.retain(|row| halted.contains(&row.stock()));
         rows
     }
 }
@@ -83,6 +106,10 @@ impl Row<'_> {
 
     pub fn open(self) -> u32 {
         self.liable().saturating_sub(self.spent())
+    }
+
+    pub fn stock(self) -> [u8; 8] {
+        bytes(self.0, 28)
     }
 
     pub fn in_cross(self) -> bool {

@@ -5,6 +5,29 @@ use super::look::{Look, Row};
 
 /// The first stamp that isn't legal.
 pub const STAMPS_END: u64 = 24 * 3_600 * 1_000_000_000;
+/// Stocks that are 1 to 8 capitals and then spaces.
+pub const GOOD_STOCKS: [[u8; 8]; 6] = [
+    *b"A       ",
+    *b"IBM     ",
+    *b"AAZZ    ",
+    *b"ABCDEFG ",
+    *b"ABCDEFGH",
+    *b"ZZZZZZZZ",
+];
+/// And some that aren't.
+const BAD_STOCKS: [[u8; 8]; 11] = [
+    *b"        ",
+    *b" IBM    ",
+    *b"IB M    ",
+    *b"IBm     ",
+    *b"IBM1    ",
+    *b"IBM\0\0\0\0\0",
+    *b"IBM@    ",
+    *b"IBM[    ",
+    *b"MSFTMSF1",
+    *b"\0\0\0\0\0\0\0\0",
+    *b"A      A",
+];
 /// Characters that a token may hold.
 const TOKEN_CHARACTERS: &[u8] = b"ABCXYZabcxyz0189 ";
 
@@ -136,34 +159,57 @@ pub fn firm(chance: &mut Chance, look: &Look) -> [u8; 4] {
     }
 }
 
-/// A stock: mostly 1 to 8 capitals and then spaces.
-pub fn stock(chance: &mut Chance) -> [u8; 8] {
-    let bad = [
-        *b"        ",
-        *b" IBM    ",
-        *b"IB M    ",
-        *b"IBm     ",
-        *b"IBM1    ",
-        *b"IBM\0\0\0\0\0",
-        *b"IBM@    ",
-        *b"IBM[    ",
-        *b"MSFTMSF1",
-        *b"\0\0\0\0\0\0\0\0",
-        *b"A      A",
-    ];
-    let good = [
-        *b"A       ",
-        *b"IBM     ",
-        *b"AAZZ    ",
-        *b"ABCDEFG ",
-        *b"ABCDEFGH",
-        *b"ZZZZZZZZ",
-    ];
-    if chance.one_in(30) {
-        chance.pick(&bad)
-    } else {
-        chance.pick(&good)
+/// A stock for an order: mostly well formed, listed and trading.
+pub fn stock(chance: &mut Chance, look: &Look) -> [u8; 8] {
+    match chance.below(60) {
+        0 | 1 => chance.pick(&BAD_STOCKS),
+        2 => near_symbol(chance, look),
+        3 | 4 => chance.pick(&GOOD_STOCKS),
+        5 => {
+            // Whatever its form, since a list may have any.
+            let state = chance.pick(b"TH");
+            symbol_in(chance, look, state)
+        }
+        6..=11 => stock_in(chance, look, b'H'),
+        _ => stock_in(chance, look, b'T'),
     }
+}
+
+/// A listed and well-formed stock in this state, or any where there is none.
+fn stock_in(chance: &mut Chance, look: &Look, state: u8) -> [u8; 8] {
+    let any = chance.pick(&GOOD_STOCKS);
+    let mut listed = look.stocks_in(state);
+    listed.retain(well_formed);
+    chance.choose(&listed).copied().unwrap_or(any)
+}
+
+/// A listed symbol in this state, or any stock where there is none.
+pub fn symbol_in(chance: &mut Chance, look: &Look, state: u8) -> [u8; 8] {
+    let any = chance.pick(&GOOD_STOCKS);
+    let listed = look.stocks_in(state);
+    chance.choose(&listed).copied().unwrap_or(any)
+}
+
+/// A symbol that differs from a listed one in a single byte, and is mostly unlisted.
+pub fn near_symbol(chance: &mut Chance, look: &Look) -> [u8; 8] {
+    let state = chance.pick(b"TH");
+    let mut symbol = symbol_in(chance, look, state);
+    let byte = chance.pick(&[0, 3, 6, 7, 7]);
+    let letters = [
+        b'A',
+        b'Z',
+        b' ',
+        symbol[byte].wrapping_add(1),
+        symbol[byte] ^ 0x80,
+    ];
+    symbol[byte] = chance.pick(&letters);
+    symbol
+}
+
+/// Whether a symbol is some capitals and then spaces.
+fn well_formed(symbol: &[u8; 8]) -> bool {
+    let name = symbol.trim_ascii_end();
+    !name.is_empty() && name.iter().all(u8::is_ascii_uppercase)
 }
 
 /// A cross: half without one, so that late periods are common.

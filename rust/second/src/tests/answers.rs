@@ -57,6 +57,7 @@ fn kind_and_length_come_before_stamp_and_token() {
         token_only(b'l', 2, "A"),
         token_only(b'f', 2, "A"),
         system(2, b'S'),
+        halt(2, b"IBM     ", b'H'),
     ] {
         let bad_stamp = [&entry[..1], &[0xff; 8], &entry[9..]].concat();
         assert_eq!(desk.answer(&bad_stamp), 3);
@@ -68,10 +69,10 @@ fn kind_and_length_come_before_stamp_and_token() {
 }
 
 #[test]
-fn only_the_eleven_kinds_are_known() {
+fn only_the_twelve_kinds_are_known() {
     let mut desk = Desk::open(1);
     for kind in 0..=255_u8 {
-        let known = b"OUXMecqplfs".contains(&kind);
+        let known = b"OUXMecqplfsh".contains(&kind);
         let answers: Vec<u8> = (0..100)
             .map(|len| {
                 let mut entry = vec![0xff; len];
@@ -100,6 +101,7 @@ fn lengths_are_the_papers() {
         (b'l', 23),
         (b'f', 23),
         (b's', 10),
+        (b'h', 18),
     ];
     for (kind, len) in lengths {
         let mut entry = vec![0xff; len];
@@ -185,7 +187,7 @@ fn both_tokens_of_a_replace_are_judged() {
 
 #[test]
 fn letters_are_judged_where_the_paper_names_them() {
-    let cases: [(Vec<u8>, usize, &[u8]); 8] = [
+    let cases: [(Vec<u8>, usize, &[u8]); 9] = [
         (O::good("B").entry(4), 23, b"BSTE"),
         (O::good("B").entry(4), 50, b"YNy"),
         (replace(4, "A", "B", 500), 50, b"YNy"),
@@ -194,6 +196,7 @@ fn letters_are_judged_where_the_paper_names_them() {
         (self_match(4, "A", 1), 35, b"AROMCLHKJmkV"),
         (book_cancel(4, "A", 1), 27, b"ITSDZE"),
         (system(4, b'S'), 9, b"SE"),
+        (halt(4, b"IBM     ", b'H'), 17, b"TH"),
     ];
     for (mut entry, place, legal) in cases {
         for letter in 0..=255_u8 {
@@ -374,13 +377,14 @@ fn entries_without_a_message_need_no_room() {
     assert_eq!(desk.flags(0), 1);
     assert_eq!(desk.answer(&token_only(b'f', 4, "A")), 0);
     assert_eq!(desk.flags(0), 0);
+    assert_eq!(desk.answer(&halt(4, b"IBM     ", b'H')), 0);
     assert_eq!(desk.held, desk.ring.len());
 }
 
 #[test]
-fn an_empty_table_and_ring_are_refused_quietly() {
+fn an_empty_table_ring_and_list_are_refused_quietly() {
     let (mut at, mut held) = (usize::MAX, usize::MAX);
-    let told = step(&mut [], &mut [], &mut at, &mut held, &[]);
+    let told = step(&mut [], &mut [], &mut at, &mut held, &mut [], &[]);
     assert_eq!((told.answer, told.place), (10, 0));
     assert_eq!((at, held), (usize::MAX, usize::MAX));
 }

@@ -100,14 +100,14 @@ fn the_first_fault_in_the_papers_order_is_sent() {
     );
     let mut order = all_wrong;
     let mut expect = |letter, mend: fn(&mut O)| {
-        assert_eq!(
-            Desk::open(1).sent(&order.entry(2)),
-            rejected(2, "A", letter)
-        );
+        let mut desk = Desk::open(1).with_state(b"ABCDEFGH", b'H');
+        assert_eq!(desk.sent(&order.entry(2)), rejected(2, "A", letter));
         mend(&mut order);
     };
     expect(b'L', |o| o.firm = *b"EF  ");
-    expect(b'S', |o| o.stock = *b"ZZZZZZZZ");
+    expect(b'S', |o| o.stock = *b"ZZZZ    ");
+    expect(b'S', |o| o.stock = *b"ABCDEFGH");
+    expect(b'H', |o| o.stock = *b"ZZZZZZZZ");
     expect(b'R', |o| o.cross = b'N');
     expect(b'D', |o| o.display = b'A');
     expect(b'X', |o| o.price = 1);
@@ -175,7 +175,8 @@ fn stocks_are_capitals_and_then_spaces() {
         (*b"A[      ", false),
         (*b"A\0\0\0\0\0\0\0", false),
     ] {
-        let message = Desk::open(1).sent(
+        // Each is listed, so that it is the form that tells.
+        let message = Desk::open(1).with_stocks(&[(&stock, b'T')]).sent(
             &O {
                 stock,
                 ..O::good("A")

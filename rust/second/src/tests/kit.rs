@@ -1,9 +1,12 @@
-//! A test's desk: a table, a ring and its marks, with entries written byte by byte from the paper.
+//! A test's desk: a table, a ring and its marks and a list of stocks, with entries written byte by
+//! byte from the paper.
 
 use crate::tapes::judged::{Field, Judged};
 use crate::{Told, fresh, read, release, step};
 
 pub const ROOMY_RING: usize = 4_096;
+/// The stocks that tests enter orders in, all trading.
+const STOCKS: &[u8] = b"A       TABCDEFGHTIBM     TZZZZZZZZT";
 
 /// Where the desk's bytes are; every step is watched for changes that its answer doesn't allow.
 #[derive(Clone)]
@@ -12,6 +15,7 @@ pub struct Desk {
     pub ring: Vec<u8>,
     pub at: usize,
     pub held: usize,
+    pub stocks: Vec<u8>,
 }
 
 impl Desk {
@@ -24,6 +28,7 @@ impl Desk {
             ring: vec![0; ROOMY_RING],
             at: 0,
             held: 0,
+            stocks: STOCKS.to_vec(),
         }
     }
 
@@ -62,8 +67,8 @@ impl Desk {
         self.told(entry).answer
     }
 
-    /// What the step tells. A refusal may change nothing; a done entry moves the last stamp; and a
-    /// place is told with 3 only, never the kind's.
+    /// What the step tells. A refusal may change nothing; a done entry moves the last stamp; only h
+    /// touches the list of stocks; and a place is told with 3 only, never the kind's.
     pub fn told(&mut self, entry: &[u8]) -> Told {
         let before = self.clone();
         let told = step(
@@ -71,11 +76,15 @@ impl Desk {
             &mut self.ring,
             &mut self.at,
             &mut self.held,
+            &mut self.stocks,
             entry,
         );
         let answer = told.answer;
         assert_eq!(told.place > 0, answer == 3, "{told:?}");
         assert_eq!(self.at, before.at, "a step moves no read place");
+        if answer != 0 || entry[0] != b'h' {
+            assert_eq!(self.stocks, before.stocks, "only a done h touches the list");
+        }
         if answer != 0 {
             assert_eq!(
                 self.table, before.table,
@@ -116,6 +125,20 @@ impl Desk {
             assert_eq!(release(self.ring.len(), &mut self.at, &mut self.held, k), 0);
         }
         out
+    }
+
+    /// The same with these stocks listed, in whatever order they are given.
+    pub fn with_stocks(mut self, stocks: &[(&[u8; 8], u8)]) -> Desk {
+        self.stocks = listed(stocks);
+        self
+    }
+
+    /// The same with this stock in this state.
+    pub fn with_state(mut self, symbol: &[u8; 8], state: u8) -> Desk {
+        let mut places = self.stocks.chunks_exact_mut(9);
+        let place = places.find(|place| place[..8] == symbol[..]);
+        place.expect("the stock is listed")[8] = state;
+        self
     }
 
     /// An empty ring of another length.
@@ -367,6 +390,20 @@ pub fn token_only(kind: u8, stamp: u64, name: &str) -> Vec<u8> {
 
 pub fn system(stamp: u64, code: u8) -> Vec<u8> {
     [b"s".as_slice(), &stamp.to_be_bytes(), &[code]].concat()
+}
+
+pub fn halt(stamp: u64, symbol: &[u8; 8], state: u8) -> Vec<u8> {
+    [b"h".as_slice(), &stamp.to_be_bytes(), symbol, &[state]].concat()
+}
+
+/// A list of these stocks, sorted by their bytes.
+pub fn listed(stocks: &[(&[u8; 8], u8)]) -> Vec<u8> {
+    let mut stocks = stocks.to_vec();
+    stocks.sort();
+    let places = stocks.iter();
+    places
+        .flat_map(|(symbol, state)| symbol.iter().copied().chain([*state]))
+        .collect()
 }
 
 /// Messages as a test expects them.

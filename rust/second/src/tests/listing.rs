@@ -3,11 +3,18 @@
 use super::kit::*;
 use crate::listing;
 
+/// A good Enter in the only stock that the program's list has.
+fn enter(name: &'static str, stamp: u64) -> Vec<u8> {
+    let stock = *b"ABC     ";
+    let order = O::good(name);
+    O { stock, ..order }.entry(stamp)
+}
+
 #[test]
 fn the_papers_tape_prints_the_papers_lines() {
     let tape = [
         system(1, b'S'),
-        O::good("A").entry(2),
+        enter("A", 2),
         cancel(3, "A", 0),
         cancel(3, "A", 0),
     ]
@@ -28,11 +35,11 @@ fn an_empty_tape_prints_the_two_fixed_lines() {
 #[test]
 fn a_cut_entry_and_an_unknown_kind_end_the_list() {
     let start = system(1, b'S');
-    let cut = [start.as_slice(), &O::good("A").entry(2)[..55]].concat();
+    let cut = [start.as_slice(), &enter("A", 2)[..55]].concat();
     let lines = "entry kind answer sent\n1 73 0 S\n2 4f 2 -\ntaken 1 bytes 10\n";
     assert_eq!(listing(&cut).as_deref(), Some(lines));
 
-    let unknown = [start.as_slice(), b"\x07", &O::good("A").entry(2)].concat();
+    let unknown = [start.as_slice(), b"\x07", &enter("A", 2)].concat();
     let lines = "entry kind answer sent\n1 73 0 S\n2 07 2 -\ntaken 1 bytes 10\n";
     assert_eq!(listing(&unknown).as_deref(), Some(lines));
 }
@@ -58,7 +65,7 @@ fn a_long_tape_shows_every_letter() {
     let mut tape = system(1, b'S');
     for round in 0..20_u64 {
         for name in names {
-            tape.extend(O::good(name).entry(2 + round));
+            tape.extend(enter(name, 2 + round));
             tape.extend(execution(2 + round, name, 1));
         }
     }

@@ -2,10 +2,10 @@
 
 use super::kit::*;
 use crate::tapes::judged::{ENTRIES, Judged, of_entry, places};
-use crate::{Answer, Host, Outbox, Told};
+use crate::{Answer, Host, Outbox, Stocks, Told};
 
 /// A legal entry of each kind, for a desk where "A" is live.
-fn legal_entries() -> [Vec<u8>; 11] {
+fn legal_entries() -> [Vec<u8>; 12] {
     [
         O::good("B").entry(4),
         replace(4, "A", "B", 500),
@@ -18,6 +18,7 @@ fn legal_entries() -> [Vec<u8>; 11] {
         token_only(b'l', 4, "A"),
         token_only(b'f', 4, "A"),
         system(4, b'E'),
+        halt(4, b"IBM     ", b'H'),
     ]
 }
 
@@ -52,6 +53,7 @@ fn each_judged_field_of_each_kind_tells_its_first_byte() {
         (b'l', &[1, 9]),
         (b'f', &[1, 9]),
         (b's', &[1, 9]),
+        (b'h', &[1, 17]),
     ] {
         let entries = legal_entries();
         let entry = entries.iter().find(|entry| entry[0] == kind).unwrap();
@@ -158,7 +160,9 @@ fn a_refusal_that_comes_before_has_no_place() {
     damaged.table[0] = 3;
     let mut wrong_marks = Desk::worked();
     wrong_marks.at = wrong_marks.ring.len();
-    for (mut desk, answer) in [(damaged, 10), (wrong_marks, 11)] {
+    let mut wrong_list = Desk::worked();
+    wrong_list.stocks.pop();
+    for (mut desk, answer) in [(damaged, 10), (wrong_marks, 11), (wrong_list, 14)] {
         assert_eq!(desk.told(&bad), Told { answer, place: 0 });
     }
 }
@@ -172,6 +176,7 @@ fn every_other_answer_has_place_0() {
         (Desk::worked(), O::good("A").entry(4), 1),
         (Desk::worked(), O::good("B").entry(2), 4),
         (Desk::worked(), execution(4, "Z", 1), 5),
+        (Desk::worked(), halt(4, b"ZZZ     ", b'H'), 5),
         (Desk::worked(), execution(4, "A", 0), 6),
         (Desk::worked(), system(4, b'S'), 7),
         (Desk::open(1), replace(4, "A", "B", 1), 1),
@@ -188,11 +193,14 @@ fn every_other_answer_has_place_0() {
 
 #[test]
 fn a_kept_host_tells_the_place_too() {
-    let mut host = Host::load(&Desk::worked().table).unwrap();
+    let mut desk = Desk::worked();
+    let mut host = Host::load(&desk.table).unwrap();
     let mut outbox = Outbox::empty(80).unwrap();
+    let mut stocks = Stocks::over(&mut desk.stocks).unwrap();
     let bad = with(&replace(4, "A", "B", 500), 30, b"*");
-    assert_eq!(host.offer(&mut outbox, &bad), told_at(Some(30)));
-    assert_eq!(host.offer(&mut outbox, &cancel(4, "A", 0)), told_at(None));
+    let mut told = |entry: &[u8]| host.offer(&mut outbox, &mut stocks, entry);
+    assert_eq!(told(&bad), told_at(Some(30)));
+    assert_eq!(told(&cancel(4, "A", 0)), told_at(None));
 }
 
 /// Settings aren't an entry, so that no byte of one is told.

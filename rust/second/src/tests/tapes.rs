@@ -2,18 +2,19 @@
 
 use std::collections::BTreeSet;
 
-use super::kit::{Desk, O, cancel, first_bad, number, system, told_at};
+use super::kit::{Desk, O, cancel, first_bad, listed, number, system, told_at};
 use crate::tapes::judged::{ENTRIES, of_entry, of_message, places};
-use crate::tapes::{Chance, Tapes, damage, message, settings, sound_table, worn_out};
-use crate::{Host, Outbox, Told, echo, fresh, listing, read, release, step};
+use crate::tapes::{Chance, Tapes, damage, good_list, message, settings, sound_table, worn_out};
+use crate::{Host, Outbox, Stocks, Told, echo, fresh, listing, read, release, step};
 
-/// A table, a ring and marks, and what was seen of answers and messages.
+/// A table, a ring and marks and a list of stocks, and what was seen of answers and messages.
 struct Run {
     chance: Chance,
     table: Vec<u8>,
     ring: Vec<u8>,
     at: usize,
     held: usize,
+    stocks: Vec<u8>,
     seen: BTreeSet<String>,
 }
 
@@ -31,12 +32,14 @@ impl Run {
         };
         let ring = vec![0x5a; damage::right_ring_length(&mut chance)];
         let at = chance.place(ring.len());
+        let stocks = good_list(&mut chance, &table);
         Run {
             chance,
             table,
             ring,
             at,
             held: 0,
+            stocks,
             seen: BTreeSet::new(),
         }
     }
@@ -44,12 +47,14 @@ impl Run {
     /// One step, compared with the kept host and held to what every step promises.
     fn step(&mut self, entry: &[u8]) -> u8 {
         let before = (self.table.clone(), self.ring.clone(), self.at, self.held);
+        let list = self.stocks.clone();
         let kept = self.kept_host(entry);
         let told = step(
             &mut self.table,
             &mut self.ring,
             &mut self.at,
             &mut self.held,
+            &mut self.stocks,
             entry,
         );
         let answer = told.answer;
@@ -61,7 +66,9 @@ impl Run {
         } else {
             self.check_done(entry, &before.0, &before.1, before.3);
         }
-        let after = (told, self.table.clone(), self.ring.clone(), self.held);
+        assert_eq!(self.stocks, list_after(&list, entry, answer));
+        let bytes = [&self.table, &self.ring, &self.stocks].map(Vec::clone);
+        let after = (told, bytes, self.held);
         assert!(
             kept.is_none_or(|kept| kept == after),
             "the kept host differs"
@@ -71,11 +78,14 @@ impl Run {
     }
 
     /// The same step by a host of its own and an outbox of its own.
-    fn kept_host(&self, entry: &[u8]) -> Option<(Told, Vec<u8>, Vec<u8>, usize)> {
+    fn kept_host(&self, entry: &[u8]) -> Option<(Told, [Vec<u8>; 3], usize)> {
         let mut host = Host::load(&self.table)?;
         let mut outbox = Outbox::over(self.ring.clone(), self.at, self.held)?;
-        let told = host.offer(&mut outbox, entry);
-        Some((told, host.image(), outbox.ring().to_vec(), outbox.held()))
+        let mut list = self.stocks.clone();
+        let mut stocks = Stocks::over(&mut list)?;
+        let told = host.offer(&mut outbox, &mut stocks, entry);
+        let bytes = [host.image(), outbox.ring().to_vec(), list];
+        Some((told, bytes, outbox.held()))
     }
 
     /// The place is the first bad byte's, and 0 with every answer but 3.
@@ -161,6 +171,17 @@ impl Run {
     }
 }
 
+/// What a list must be after a step: only a done h changes it, at the state of its symbol.
+fn list_after(list: &[u8], entry: &[u8], answer: u8) -> Vec<u8> {
+    let mut list = list.to_vec();
+    if answer == 0 && entry[0] == b'h' {
+        let mut places = list.chunks_exact_mut(9);
+        let place = places.find(|place| place[..8] == entry[9..17]);
+        place.expect("done, so it is listed")[8] = entry[17];
+    }
+    list
+}
+
 /// Runs tapes and gives all that was seen.
 fn run_tapes(seeds: std::ops::Range<u64>, entries: usize) -> BTreeSet<String> {
     let mut seen = BTreeSet::new();
@@ -168,7 +189,7 @@ fn run_tapes(seeds: std::ops::Range<u64>, entries: usize) -> BTreeSet<String> {
         let mut run = Run::new(seed);
         let mut tapes = Tapes::new(seed ^ 0xdead_beef);
         for _ in 0..entries {
-            let entry = tapes.entry(&run.table);
+            let entry = tapes.entry(&run.table, &run.stocks);
             run.step(&entry);
             run.drain();
         }
@@ -187,15 +208,15 @@ fn tapes_reach_every_answer_message_and_reason() {
         }
     };
     (0..=9).for_each(|answer| want(format!("answer {answer}")));
-    "CLSRDXZN"
+    "CLSHRDXZN"
         .chars()
         .for_each(|reason| want(format!("O J {reason}")));
     "ITSDZE"
         .chars()
         .for_each(|reason| want(format!("c C {reason}")));
     for what in [
-        "O A  ", "U J C", "U J R", "U C U", "U U  ", "X C U", "X P  ", "X I  ", "M M  ", "e E  ",
-        "q D  ", "p T  ", "l -  ", "f -  ", "f C U", "s S  ",
+        "O A  ", "U J C", "U J R", "U J H", "U C U", "U U  ", "X C U", "X P  ", "X I  ", "M M  ",
+        "e E  ", "q D  ", "p T  ", "l -  ", "f -  ", "f C U", "s S  ", "h -  ",
     ] {
         want(what.to_string());
     }
@@ -217,9 +238,11 @@ fn tapes_reach_every_place() {
 #[test]
 fn a_seed_repeats_its_tape() {
     let table = sound_table(&mut Chance::new(5), 20);
+    let list = good_list(&mut Chance::new(5), &table);
     let tape = |seed| {
         let mut tapes = Tapes::new(seed);
-        (0..50).map(|_| tapes.entry(&table)).collect::<Vec<_>>()
+        let entries = (0..50).map(|_| tapes.entry(&table, &list));
+        entries.collect::<Vec<_>>()
     };
     assert_eq!(tape(1), tape(1));
     assert_ne!(tape(1), tape(2));
@@ -283,11 +306,12 @@ fn damaged_tables_are_judged_alike_by_two_judges_and_never_changed() {
         let records = 1 + chance.place(12);
         let mut table = sound_table(&mut chance, records);
         damage::table(&mut chance, &mut table);
-        let entry = Tapes::new(seed).entry(&table);
+        let entry = Tapes::new(seed).entry(&table, &[]);
         let before = table.clone();
         let mut ring = [0x5a; 80];
         let (mut at, mut held) = (3, 4);
-        let answer = step(&mut table, &mut ring, &mut at, &mut held, &entry).answer;
+        let told = step(&mut table, &mut ring, &mut at, &mut held, &mut [], &entry);
+        let answer = told.answer;
         assert_eq!(answer != 10, sound_by_bytes(&before));
         if answer == 10 {
             unsound += 1;
@@ -309,7 +333,7 @@ fn damaged_marks_rings_and_entries_are_refused_or_done_but_never_fatal() {
         let mut run = Run::new(seed);
         let mut tapes = Tapes::new(seed);
         for _ in 0..30 {
-            let entry = tapes.entry(&run.table);
+            let entry = tapes.entry(&run.table, &run.stocks);
             let entry = damage::entry(&mut run.chance, entry);
             run.step(&entry);
         }
@@ -319,7 +343,7 @@ fn damaged_marks_rings_and_entries_are_refused_or_done_but_never_fatal() {
         damage::marks(&mut run.chance, run.ring.len(), &mut run.at, &mut run.held);
         let (len, at, held) = (run.ring.len(), run.at, run.held);
         let right = (80..=65_536).contains(&len) && at < len && held <= len;
-        let entry = tapes.entry(&run.table);
+        let entry = tapes.entry(&run.table, &run.stocks);
         assert_eq!(run.step(&entry) == 11, !right);
         let part = if right { held.min(len - at) } else { 0 };
         assert_eq!(read(&run.ring, at, held).len(), part);
@@ -345,9 +369,10 @@ fn a_tape_can_be_made_for_any_bytes() {
     let mut lengths = BTreeSet::new();
     for _ in 0..2_000 {
         let table: Vec<u8> = (0..chance.place(400)).map(|_| chance.byte()).collect();
-        lengths.insert(tapes.entry(&table).len());
+        let list: Vec<u8> = (0..chance.place(40)).map(|_| chance.byte()).collect();
+        lengths.insert(tapes.entry(&table, &list).len());
     }
-    for len in [10, 23, 27, 28, 36, 40, 55, 56] {
+    for len in [10, 18, 23, 27, 28, 36, 40, 55, 56] {
         assert!(lengths.contains(&len), "never made: {len}");
     }
 }
@@ -357,12 +382,13 @@ fn a_tape_can_be_made_for_any_bytes() {
 fn a_listing_counts_what_steps_do() {
     let mut table = vec![0; 64_064];
     assert_eq!(fresh(&mut table, 1_000_000, &[*b"ABCD"]), 0);
-    let mut ring = vec![0; 4_096];
+    let (mut ring, mut stocks) = (vec![0; 4_096], listed(&[(b"ABC     ", b'T')]));
     let (mut at, mut held, mut tapes) = (0, 0, Tapes::new(77));
     let (mut tape, mut lines, mut taken, mut bytes) = (Vec::new(), Vec::new(), 0, 0);
     while lines.len() < 300 {
-        let entry = tapes.entry(&table);
-        let answer = step(&mut table, &mut ring, &mut at, &mut held, &entry).answer;
+        let entry = tapes.entry(&table, &stocks);
+        let (marks, stocks) = ((&mut at, &mut held), &mut stocks);
+        let answer = step(&mut table, &mut ring, marks.0, marks.1, stocks, &entry).answer;
         if answer == 2 {
             continue;
         }

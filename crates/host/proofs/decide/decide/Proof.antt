@@ -7,7 +7,7 @@ use Rattle.host.proofs.decide.decide.Tie as tie
 
 returns : tie.Need-returns
 unfolding decideBy
-returns c = rw (sym (c .before .before .before .before .kind-of .ensures) ∙ c .before .before .enum-told .given .1) (cc)
+returns c = rw (sym (c .before .before .before .kind-of .ensures) ∙ c .before .enum-told .given .1) (cc)
 
 returns-2 : tie.Need-returns-2
 unfolding decideBy
@@ -53,25 +53,57 @@ returns-12 : tie.Need-returns-12
 unfolding decideBy
 returns-12 c = rw (sym (c .before .before .before .kind-of .ensures) ∙ c .before .enum-told12 .given .1) (cc)
 
+returns-13 : tie.Need-returns-13
+unfolding decideBy
+returns-13 c = rw (sym (c .before .before .before .kind-of .ensures) ∙ c .before .enum-told13 .given .1) (cc)
+
 pub decide-spec : {M : Type 1} → statement M
 decide-spec =
-    tie.close (tie.spec unasked (λ c. search needs)
-    (λ c κs. long-as _ (c .before .before .before .before .before .pre) (c .before .before .kind-of .ensures) (c .enum-told .given .1))
-    unasked (λ c. search needs)
-    (λ c κs. long-as _ (c .before .before .before .before .before .pre) (c .before .before .kind-of .ensures) (c .enum-told2 .given .1))
+    tie.close (tie.spec
+    unasked
     (λ c. search needs)
-    (λ c κs. long-as _ (c .before .before .before .before .before .pre) (c .before .before .kind-of .ensures) (c .enum-told3 .given .1))
-    unasked (λ c. search needs)
-    (λ c κs. long-as _ (c .before .before .before .before .before .pre) (c .before .before .kind-of .ensures) (c .enum-told4 .given .1))
-    unasked (λ c. search needs)
-    (λ c κs. long-as _ (c .before .before .before .before .before .pre) (c .before .before .kind-of .ensures) (c .enum-told5 .given .1))
-    unasked (λ c. search needs)
-    (λ c κs. long-as _ (c .before .before .before .before .before .pre) (c .before .before .kind-of .ensures) (c .enum-told6 .given .1))
-    unasked (λ c. search needs)
-    (λ c κs. long-as _ (c .before .before .before .before .before .pre) (c .before .before .kind-of .ensures) (c .enum-told7 .given .1))
-    unasked (λ c. search needs)
-    (λ c κs. long-as _ (c .before .before .before .before .before .pre) (c .before .before .kind-of .ensures) (c .enum-told8 .given .1))
-    unasked (λ c. search needs) unasked (λ c. search needs) unasked (λ c. search needs)
-    (λ c κs. long-as _ (c .before .before .before .before .before .pre) (c .before .before .kind-of .ensures) (c .enum-told11 .given .1))
-    unasked (λ c. search needs) unasked returns returns-2 returns-3 returns-4 returns-5 returns-6 returns-7 returns-8 returns-9 returns-10
-    returns-11 returns-12)
+    (λ c κs. (long-as _ (c .before .before .before .before .before .before .pre .0) (c .before .before .kind-of .ensures) (c .enum-told .given .1), c .before .before .before .before .before .before .pre .1))
+    (λ c. search needs)
+    (λ c κs. (long-as _ (c .before .before .before .before .before .before .pre .0) (c .before .before .kind-of .ensures) (c .enum-told2 .given .1), c .before .before .before .before .before .before .pre .1))
+    (λ c. search needs)
+    (λ c κs. long-as _ (c .before .before .before .before .before .before .pre .0) (c .before .before .kind-of .ensures) (c .enum-told3 .given .1))
+    unasked
+    (λ c. search needs)
+    (λ c κs. long-as _ (c .before .before .before .before .before .before .pre .0) (c .before .before .kind-of .ensures) (c .enum-told4 .given .1))
+    unasked
+    (λ c. search needs)
+    (λ c κs. long-as _ (c .before .before .before .before .before .before .pre .0) (c .before .before .kind-of .ensures) (c .enum-told5 .given .1))
+    unasked
+    (λ c. search needs)
+    (λ c κs. long-as _ (c .before .before .before .before .before .before .pre .0) (c .before .before .kind-of .ensures) (c .enum-told6 .given .1))
+    unasked
+    (λ c. search needs)
+    (λ c κs. long-as _ (c .before .before .before .before .before .before .pre .0) (c .before .before .kind-of .ensures) (c .enum-told7 .given .1))
+    unasked
+    (λ c. search needs)
+    (λ c κs. long-as _ (c .before .before .before .before .before .before .pre .0) (c .before .before .kind-of .ensures) (c .enum-told8 .given .1))
+    unasked
+    (λ c. search needs)
+    unasked
+    (λ c. search needs)
+    unasked
+    (λ c. search needs)
+    (λ c κs. long-as _ (c .before .before .before .before .before .before .pre .0) (c .before .before .kind-of .ensures) (c .enum-told11 .given .1))
+    unasked
+    (λ c. search needs)
+    (λ c κs. (long-as _ (c .before .before .before .before .before .before .pre .0) (c .before .before .kind-of .ensures) (c .enum-told12 .given .1), c .before .before .before .before .before .before .pre .1))
+    (λ c. search needs)
+    unasked
+    returns
+    returns-2
+    returns-3
+    returns-4
+    returns-5
+    returns-6
+    returns-7
+    returns-8
+    returns-9
+    returns-10
+    returns-11
+    returns-12
+    returns-13)

@@ -1,4 +1,4 @@
--- The rule, of both orders that the entry names. Assumes nothing.
+-- The rule, of both orders that the entry names and of how their stock stands. Assumes nothing.
 use Rattle.octets.proofs.Proving.{needs, unasked}
 use Rattle.table.specs.Table.{orderNamed}
 use Rattle.host.proofs.decide.decide_replace.Statement.{statement}
@@ -9,4 +9,4 @@ unfolding orderNamed
 returns c = cc
 
 pub decide-replace-spec : {M : Type 1} → statement M
-decide-replace-spec = tie.close (tie.spec (λ c κs. search needs) unasked unasked unasked returns)
+decide-replace-spec = tie.close (tie.spec (λ c κs. search needs) unasked unasked (λ c κs. search needs) unasked returns)

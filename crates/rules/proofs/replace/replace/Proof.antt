@@ -28,10 +28,21 @@ returns-3 c =
 returns-4 : tie.Need-returns-4
 unfolding replaceRule
 returns-4 c =
-    let d = c .before .before .before .before in
+    let f = c .before .before .before in
+    let d = f .before .before .before in
     let p = d .before .before in
     let u = p .before in
-    rw (← u .before .is-live .ensures, ← u .is-used .ensures, p .if1 .left, denied (d .is-open-day .ensures) (c .before .before .before .if2 .left), answered (c .before .before .is .ensures) (c .before .if3 .left)) (c .replace-open .ensures)
+    rw (← u .before .is-live .ensures, ← u .is-used .ensures, p .if1 .left, denied (d .is-open-day .ensures) (f .before .before .if2 .left), answered (f .before .is .ensures) (f .if3 .left), answered (c .before .before .is-halted .ensures) (c .before .if4 .taken)) cc
+
+returns-5 : tie.Need-returns-5
+unfolding replaceRule
+returns-5 c =
+    let f = c .before .before .before in
+    let d = f .before .before .before in
+    let p = d .before .before in
+    let u = p .before in
+    rw (← u .before .is-live .ensures, ← u .is-used .ensures, p .if1 .left, denied (d .is-open-day .ensures) (f .before .before .if2 .left), answered (f .before .is .ensures) (f .if3 .left), answered (c .before .before .is-halted .ensures) (c .before .if4 .left)) (c .replace-open .ensures)
 
 pub replace-spec : {M : Type 1} → statement M
-replace-spec = tie.close (tie.spec unasked unasked unasked returns unasked unasked returns-2 unasked unasked returns-3 unasked returns-4)
+replace-spec =
+    tie.close (tie.spec unasked unasked unasked returns unasked unasked returns-2 unasked unasked returns-3 unasked unasked returns-4 unasked returns-5)

@@ -1,6 +1,6 @@
 -- Each arm looks at the fields of its shape, in their order. Assumes nothing.
 use Rattle.octets.proofs.Proving.{arith, needs, unasked}
-use Rattle.wire.specs.Layout.{tokenAt, liquidityAt, bookReasonAt, limitPriceAt, systemEventAt, firstBadPlace}
+use Rattle.wire.specs.Layout.{tokenAt, liquidityAt, bookReasonAt, limitPriceAt, systemEventAt, stockStateAt, firstBadPlace}
 use Rattle.wire.proofs.Found.{one, two}
 use Rattle.tape.proofs.judging.bad_behind.Statement.{statement}
 use Rattle.tape.proofs.judging.bad_behind.Tie as tie
@@ -24,8 +24,11 @@ returns-6 : tie.Need-returns-6
 returns-6 c = rw (c .before .enum-told3 .given .1) (one (systemEventAt 9) _ (c .bad-system-event .ensures))
 
 returns-7 : tie.Need-returns-7
+returns-7 c = rw (c .before .enum-told4 .given .1) (one (stockStateAt 17) _ (c .bad-stock-state .ensures))
+
+returns-8 : tie.Need-returns-8
 unfolding firstBadPlace
-returns-7 c = rw (c .enum-told4 .given .1)
+returns-8 c = rw (c .enum-told5 .given .1)
 
 pub bad-behind-spec : {M : Type 1} → statement M
 bad-behind-spec =
@@ -37,5 +40,6 @@ bad-behind-spec =
     (λ c κs. omega (arith, rw (c .before .before .behind3 .given .1) at (c .before .before .before .before .before .pre))) unasked
     (λ c. search needs) (λ c κs. omega (arith, rw (c .enum-told2 .given .1) at (c .before .before .before .pre)))
     (λ c κs. omega (arith, rw (c .before .enum-told2 .given .1) at (c .before .before .before .before .pre))) unasked (λ c. search needs)
-    (λ c κs. omega (arith, rw (c .enum-told3 .given .1) at (c .before .before .before .pre))) (λ c. search needs) returns returns-2
-    returns-3 returns-4 returns-5 returns-6 returns-7)
+    (λ c κs. omega (arith, rw (c .enum-told3 .given .1) at (c .before .before .before .pre))) (λ c. search needs)
+    (λ c κs. omega (arith, rw (c .enum-told4 .given .1) at (c .before .before .before .pre))) (λ c. search needs) returns returns-2
+    returns-3 returns-4 returns-5 returns-6 returns-7 returns-8)

@@ -1,0 +1,5 @@
+pub mod Limits
+pub mod Standing
+pub mod Stocks
+pub mod Ranks
+pub mod Kept
