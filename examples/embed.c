@@ -85,7 +85,8 @@ static uint8_t offer_until_taken(const uint8_t *entry, size_t length)
         size_t held = small.host.held;
         read_piece();
         blocked++;
-        fprintf(stderr, "%c answered 9, %zu of %zu held; %zu bytes read and released\n", entry[0], held, small.host.ring_len, held - small.host.held);
+        fprintf(stderr, "%c answered 9, %zu of %zu held; %zu bytes read and released\n", entry[0], held, small.host.ring_len,
+                held - small.host.held);
     }
     fprintf(stderr, "%c answered %d, %zu of %zu held\n", entry[0], answer, small.host.held, small.host.ring_len);
     if (answer == PQ_BAD_FIELD)
