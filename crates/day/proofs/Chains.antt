@@ -16,7 +16,7 @@ use Rattle.orders.specs.declared.order.Order.{Order}
 use Rattle.wire.proofs.NoneBad.{legalToken as judgedToken}
 use Rattle.table.proofs.Soundness.{Sound}
 use Rattle.table.proofs.Finding.{found}
-use Rattle.tape.specs.Entries.{stampOf, tokenOf}
+use Rattle.tape.specs.Entries.{stampOf}
 use Rattle.rules.specs.declared.plan.Decision.{Decision}
 use Rattle.rules.specs.declared.plan.Notice.{Notice}
 use Rattle.rules.specs.declared.plan.Notice.the-variants.{Accepted, AiqCancelled, CancelPending, CancelReject, Canceled, Executed, Modified, PriorityUpdate, Rejected, Replaced, Silent, SystemEvent}

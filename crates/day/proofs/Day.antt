@@ -19,7 +19,7 @@ use Rattle.laws.proofs.Comes.{unblocked}
 use Rattle.answers.specs.declared.Answer.{Answer}
 use Rattle.rules.specs.declared.plan.Decision.{Decision}
 use Rattle.rules.specs.declared.plan.Plan.{Plan}
-use Rattle.host.specs.Step.{Books, World, Outcome, namedPlace, comesTo, noRoom, step, booksAfter, worldAfter}
+use Rattle.host.specs.Step.{World, Outcome, namedPlace, comesTo, noRoom, step, booksAfter, worldAfter}
 use Rattle.laws.proofs.Steps.{stepBy, step-by, comes, full}
 use Rattle.table.proofs.Soundness.{of-sound}
 use Rattle.day.specs.Demand.{bytes, Streams, Begins}

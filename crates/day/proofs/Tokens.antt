@@ -1,6 +1,5 @@
 -- A token once used stays used: no entry takes a record's token away, and the used records only grow. Assumes nothing.
-use Rattle.octets.proofs.Proving.{Bool, List, [], _<_, _∙_, _≡_, _≤_, _⊎_, ap, arith, decLt, false, false≢true, inl, inr, le-ltb, length, ltb, ltb-true, refl, subst, sym, true, ℕ, ℕ-discrete}
-use Rattle.octets.specs.Choice.{pick}
+use Rattle.octets.proofs.Proving.{Bool, List, [], _<_, _∙_, _≡_, _≤_, _⊎_, ap, arith, decLt, false, false≢true, inl, inr, length, refl, subst, sym, true, ℕ, ℕ-discrete}
 use Rattle.answers.specs.Answer.{isDone}
 use Rattle.orders.specs.Order.{isUsed, noOrder}
 use Rattle.table.specs.Table.{header, usedIn, orderAt, placeOf, orderNamed, recordBytes, sound}
@@ -8,7 +7,6 @@ use Rattle.orders.specs.declared.order.Order.{Order}
 use Rattle.orders.proofs.Standing.{Live, Dead, Rejected}
 use Rattle.table.proofs.Soundness.{Sound, of-sound}
 use Rattle.table.proofs.Finding.{found, not-found}
-use Rattle.tape.specs.Entries.{tokenOf}
 use Rattle.rules.specs.declared.plan.Decision.{Decision}
 use Rattle.laws.proofs.Shapes.{Change, unchanged, changed, change-of}
 use Rattle.outbox.specs.Outbox.{ringGood}

@@ -1,5 +1,5 @@
 -- The promise of a step settles its outcome: two that it allows agree in answer, marks, table, ring and list. Assumes nothing.
-use Rattle.octets.proofs.Proving.{List, _≡_, ap₂, ℕ}
+use Rattle.octets.proofs.Proving.{List, ap₂, ℕ}
 use denote.Ref.{RefT, now}
 use Rattle.octets.proofs.Settles.{Settles, one-result, one-pair}
 use Rattle.host.specs.Types.{Answer, Marks}

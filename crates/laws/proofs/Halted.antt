@@ -1,23 +1,23 @@
 -- What a step does to the list of stocks: what a plan sets is set, and only h's plan sets anything. Assumes nothing.
-use Rattle.octets.proofs.Proving.{Bool, List, [], _∙_, _≡_, _≢_, _⊎_, ap, arith, eqb, eqb-true, false, false≢true, getD, inl, inr, length, not, refl, subst, sym, true, ℕ}
+use Rattle.octets.proofs.Proving.{Bool, List, [], _∙_, _≡_, _≢_, _⊎_, ap, eqb, eqb-true, false, false≢true, getD, inl, inr, length, not, refl, subst, sym, true, ℕ}
 use Rattle.octets.specs.Choice.{pick, among, _⇒_⨾_}
 use Rattle.answers.specs.Answer.{isDone}
-use Rattle.answers.proofs.Laws.{is-done, not-done}
+use Rattle.answers.proofs.Laws.{is-done}
 use Rattle.wire.specs.Letters.{stockStates}
 use Rattle.outbox.specs.Outbox.{ringGood}
 use Rattle.stocks.specs.Standing.{isListed}
-use Rattle.stocks.specs.Stocks.{listGood, placeOf, statePlace, standingIn, withState}
+use Rattle.stocks.specs.Stocks.{listGood, standingIn, withState}
 use Rattle.stocks.proofs.Keeps.{set-keeps}
 use Rattle.table.specs.Table.{sound}
 use Rattle.table.proofs.Soundness.{of-sound}
 use Rattle.tape.specs.Kinds.{kindOf}
 use Rattle.tape.specs.Entries.{stampOf, stockStateOf}
-use Rattle.rules.specs.Plan.{noStock, refused, setting}
+use Rattle.rules.specs.Plan.{refused, setting}
 use Rattle.market.specs.Halt.{haltRule}
 use Rattle.notices.specs.Notices.{message, noticeBytes}
-use Rattle.host.specs.Step.{Books, World, Outcome, decide, comesTo, setIf, booksAfter, worldAfter, step}
+use Rattle.host.specs.Step.{Books, World, Outcome, comesTo, setIf, booksAfter, worldAfter, step}
 use Rattle.laws.specs.Halts.{Halts, KeepsStocks}
-use Rattle.laws.proofs.Types.{Done, NotLive, Decision, Kind, SetsStock, StockState, StockStanding}
+use Rattle.laws.proofs.Types.{NotLive, Decision, SetsStock, StockState, StockStanding}
 use Rattle.laws.proofs.Comes.{passed, isHalt, state-legal, halt-decided, decide-quiet}
 use Rattle.laws.proofs.Steps.{stepBy, step-by, comes, full, only-done-changes}
 

@@ -1,5 +1,5 @@
 -- What a step's place says of the entry, from what judging it says. Assumes nothing.
-use Rattle.octets.proofs.Proving.{List, _≡_, arith, guard, length, not, not-false, true, ℕ}
+use Rattle.octets.proofs.Proving.{List, _≡_, arith, guard, length, not, not-false, ℕ}
 use Rattle.answers.specs.Answer.{isDone}
 use Rattle.wire.proofs.Told.{place-with-3}
 use Rattle.outbox.specs.Outbox.{ringGood}

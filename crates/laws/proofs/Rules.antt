@@ -29,9 +29,9 @@ use Rattle.market.specs.Cross.{lateRule, crossDone, crossDoneRule}
 use Rattle.market.specs.Day.{systemRule}
 use Rattle.market.specs.Halt.{haltRule}
 use Rattle.market.proofs.Room.{passed, room}
-use Rattle.laws.proofs.Types.{Answer, Ignored, NotLive, WrongMoment, Order, Header, Decision, Fault, EnterOrder, ReplaceOrder, CancelOrder, ModifyOrder, Execution, BookCancel, SelfMatch, Priority, System, StockState, StockStanding, Canceled, Modified, Replaced, Executed, AiqCancelled, PriorityUpdate}
+use Rattle.laws.proofs.Types.{Answer, Ignored, NotLive, WrongMoment, Order, Header, Decision, Fault, EnterOrder, ReplaceOrder, CancelOrder, ModifyOrder, Execution, BookCancel, SelfMatch, Priority, System, StockState, StockStanding, Canceled, Modified, Replaced, Executed, AiqCancelled}
 use Rattle.laws.proofs.Tests.{cancel-live, cancel-smaller, modify-live, modify-above, modify-within, fair-shares, good-shares, new-open}
-use Rattle.laws.proofs.Shapes.{Shaped, Changed, Born, ofRules, Orderly, Keeps, setting-orderly, refused-keeps, beginning-keeps, changing-keeps, renumbering-keeps, accepting-keeps, rejecting-keeps, replacing-keeps, uncounted, recounted, ended, ended-dead}
+use Rattle.laws.proofs.Shapes.{Shaped, Born, ofRules, Orderly, Keeps, setting-orderly, refused-keeps, beginning-keeps, changing-keeps, renumbering-keeps, accepting-keeps, rejecting-keeps, replacing-keeps, uncounted, recounted, ended, ended-dead}
 
 -- All that the rules ask of an order: of live ones only, because no rule changes or counts with another
 pub record Sane (o : Order) : Type 0 where

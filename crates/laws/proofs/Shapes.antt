@@ -1,9 +1,9 @@
 -- The shapes that a plan may have, and what every decision of the rules keeps; first each kind of plan, then each change of a live order.
 -- Assumes nothing.
-use Rattle.octets.proofs.Proving.{Bool, List, _&&_, _+_, _-_, _≡_, _≤_, arith, eqb, false, inl, inr, length, not, refl, true, ℕ}
+use Rattle.octets.proofs.Proving.{Bool, List, _&&_, _+_, _-_, _≡_, _≤_, arith, eqb, false, inl, length, not, refl, true, ℕ}
 use Rattle.octets.specs.Bytes.{zeros}
 use Rattle.answers.specs.Answer.{answerNumber}
-use Rattle.wire.specs.Letters.{live, dead}
+use Rattle.wire.specs.Letters.{dead}
 use Rattle.wire.specs.Limits.{tokenSize}
 use Rattle.header.specs.Limits.{dayClosed}
 use Rattle.orders.specs.Limits.{mostShares}

@@ -1,7 +1,6 @@
 -- A step that is done keeps a sound table sound: the named order's record, the record behind the used ones, and the header are each written
 -- with something good, and nothing else is touched. Assumes nothing.
 use Rattle.octets.proofs.Proving.{Bool, List, _&&_, _+_, _<_, _∙_, _≡_, _≢_, _≤_, _⊎_, ap, arith, eqb, eqb-false, false, false≢true, inl, inr, leb, leb-false, length, refl, subst, sym, true, ℕ}
-use Rattle.octets.specs.Choice.{pick}
 use Rattle.answers.specs.Answer.{isDone}
 use Rattle.wire.specs.Letters.{live, dead}
 use Rattle.wire.specs.Shares.{total}
@@ -9,8 +8,8 @@ use Rattle.wire.proofs.NoneBad.{legalToken}
 use Rattle.header.specs.Limits.{endOfReferences, dayClosed}
 use Rattle.header.specs.Whole.{WholeHeader}
 use Rattle.header.proofs.Holds.{HeaderGood}
-use Rattle.orders.specs.Counts.{gone, openShares}
-use Rattle.orders.specs.Order.{orderOf, noOrder, rejectedOrder, isUsed, isLive}
+use Rattle.orders.specs.Counts.{openShares}
+use Rattle.orders.specs.Order.{orderOf, rejectedOrder, isUsed}
 use Rattle.orders.specs.Sound.{recordSound}
 use Rattle.orders.proofs.Standing.{Live, Dead, Rejected, OrderGood, RecordGood, to-record}
 use Rattle.table.specs.Table.{HasRecord, recordsIn, recordBytes, header, orderAt, sound, storeOrder}

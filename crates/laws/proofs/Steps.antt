@@ -1,5 +1,5 @@
 -- What is true of every single step, whatever it is called on: only 'done' changes anything, a sound table stays sound and a right list right. Assumes nothing.
-use Rattle.octets.proofs.Proving.{Bool, List, _∙_, _≡_, ap, false, false≢true, length, not, refl, subst, sym, true, ℕ}
+use Rattle.octets.proofs.Proving.{Bool, List, _∙_, _≡_, ap, false, false≢true, length, not, refl, sym, true, ℕ}
 use Rattle.octets.specs.Choice.{_⇒_⨾_}
 use Rattle.answers.specs.Answer.{isDone}
 use Rattle.table.specs.Table.{sound}

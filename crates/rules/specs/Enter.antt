@@ -2,7 +2,7 @@
 use Prim.Native.Nat.{ℕ, min}
 use mathlib.Core.Bool.{Bool, not, _&&_, _||_}
 use mathlib.Core.List.{List}
-use lib.Dec.{ltb, eqb}
+use lib.Dec.{eqb}
 use Rattle.octets.specs.Choice.{pick, firstOf_, _⇒_⨾_, among}
 use Rattle.octets.specs.Bytes.{zeros}
 use Rattle.wire.specs.Letters.{live, closed, firmNotListed, invalidStock, stockHalted, notInThisCross, invalidDisplay, invalidPrice, aboveThreshold, invalidMinimum, displays, crosses, capacities, imbalanceOnly, noCross, otherCapacity}

@@ -12,7 +12,7 @@ use Rattle.answers.specs.Answer.{isDone}
 use Rattle.octets.specs.Bytes.{zeros}
 use Rattle.octets.specs.Choice.{firstOf_, _⇒_⨾_}
 use Rattle.orders.specs.Order.{noOrder, rejectedOrder}
-use Rattle.rules.specs.Types.{Order, Answer, Plan, Begins, Nothing, Day, StockState, Decision, Notice, Silent, Rejected, Accepted, Replaced, SystemEvent, Done, Ignored}
+use Rattle.rules.specs.Types.{Order, Answer, Begins, Nothing, Day, StockState, Decision, Notice, Silent, Rejected, Accepted, Replaced, SystemEvent, Done, Ignored}
 
 abbrev pub noStock : StockState
 noStock = record { symbol = zeros 8; state = 0 }

@@ -1,5 +1,5 @@
 -- What setting a state keeps: no symbol changes and no state but the one. Assumes nothing.
-use Rattle.octets.proofs.Proving.{Bool, List, List·getD-eq-default, [], _&&_, _*_, _+_, _-_, _/_, _<_, _||_, _∙_, _∷_, _≡_, _≢_, _≤_, ap, ap₂, arith, decLt, eqb, eqb-false, eqb-true, false, false≢true, getD, leb, length, ltb, ltb-true, not, refl, subst, sym, true, ℕ, ℕ-discrete}
+use Rattle.octets.proofs.Proving.{Bool, List, [], _&&_, _*_, _+_, _-_, _/_, _<_, _||_, _∙_, _∷_, _≡_, _≢_, _≤_, ap, ap₂, arith, decLt, eqb, eqb-false, eqb-true, false, false≢true, getD, leb, length, ltb, ltb-true, not, refl, subst, sym, true, ℕ, ℕ-discrete}
 use Rattle.octets.specs.Choice.{pick, allBelow, among, firstBelow, _⇒_⨾_}
 use Rattle.octets.specs.Bytes.{part, put, same}
 use Rattle.octets.proofs.Laws.{length-put, part-put-same, part-put-before, part-put-after, byte-part}
@@ -7,7 +7,7 @@ use Rattle.octets.proofs.Below.{both, all-each, same-true}
 use Rattle.octets.proofs.First.{first-is, first-same}
 use Rattle.wire.specs.Letters.{stockStates, halted}
 use Rattle.stocks.specs.Limits.{symbolSize, placeSize, mostPlaces}
-use Rattle.stocks.specs.Standing.{Standing, Trading, Halted, Unlisted, isListed}
+use Rattle.stocks.specs.Standing.{Trading, Halted, Unlisted, isListed}
 use Rattle.stocks.specs.Stocks.{placesIn, symbolAt, stateAt, statePlace, sizeGood, _before_, placeGood, listGood, hasSymbol, placeOf, standingIn, withState}
 use Rattle.stocks.specs.Kept.{SetKeeps}
 use Rattle.stocks.proofs.Good.{good-size, good-place}

@@ -8,6 +8,8 @@ ghost use Rattle.octets.specs.Choice.{pick};
 ghost use Rattle.stocks.specs.Limits.{symbolSize, placeSize};
 ghost use Rattle.stocks.specs.Ranks.{rankAt, LastNotAbove};
 ghost use Rattle.stocks.specs.Stocks.{listGood, placesIn, placeOf, standingIn};
+use crate::places::PLACE_SIZE;
+use crate::places::SYMBOL_SIZE;
 use crate::places::rank;
 use crate::places::rank_at;
 use crate::standing::Standing;
@@ -49,7 +51,7 @@ pub(crate) fn place_of(list: &[u8], symbol: [u8; 8]) -> usize
     requires { ⌜ listGood (now list) ≡ true ⌝ }
     ensures { λ r. ⌜ r ≡ placeOf (now (list .entry)) symbol ⌝ }
 {
-    let n = list.len() / 9;
+    let n = list.len() / PLACE_SIZE;
     if n == 0 {
         return n;
     }
@@ -66,8 +68,8 @@ pub fn standing(list: &[u8], symbol: [u8; 8]) -> Standing
     ensures { λ r. ⌜ r ≡ standingIn (now (list .entry)) symbol ⌝ }
 {
     let i = place_of(list, symbol);
-    if i < list.len() / 9 {
-        if list[9 * i + 8] == b'H' {
+    if i < list.len() / PLACE_SIZE {
+        if list[PLACE_SIZE * i + SYMBOL_SIZE] == b'H' {
             return Standing::Halted;
         }
         return Standing::Trading;

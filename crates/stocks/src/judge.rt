@@ -7,14 +7,18 @@ ghost use Rattle.octets.specs.Choice.{allBelow, among};
 ghost use Rattle.wire.specs.Letters.{stockStates};
 ghost use Rattle.stocks.specs.Limits.{placeSize};
 ghost use Rattle.stocks.specs.Stocks.{stateAt, placeGood, listGood};
+use crate::places::PLACE_SIZE;
+use crate::places::SYMBOL_SIZE;
 use crate::places::rank_at;
 use wire::letters::is_stock_state;
+
+pub const MOST_PLACES: usize = 2_000;
 
 fn state_good(list: &[u8], i: usize) -> bool
     requires { ⌜ placeSize * i + placeSize ≤ length (now list) ⌝ }
     ensures { λ r. ⌜ r ≡ among stockStates (stateAt (now (list .entry)) i) ⌝ }
 {
-    is_stock_state(list[9 * i + 8])
+    is_stock_state(list[PLACE_SIZE * i + SYMBOL_SIZE])
 }
 
 // All n places. The first stands behind none.
@@ -51,8 +55,8 @@ fn places_good(list: &[u8], n: usize) -> bool
 pub fn list_good(list: &[u8]) -> bool
     ensures { λ r. ⌜ r ≡ listGood (now (list .entry)) ⌝ }
 {
-    let n = list.len() / 9;
-    if (n <= 2000) & (list.len() == 9 * n) {
+    let n = list.len() / PLACE_SIZE;
+    if (n <= MOST_PLACES) & (list.len() == PLACE_SIZE * n) {
         if n == 0 {
             return true;
         }

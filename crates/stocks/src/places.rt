@@ -9,6 +9,11 @@ ghost use Rattle.stocks.specs.Ranks.{rankAt};
 use octets::bytes8_at;
 use octets::number_at;
 
+// A place is a symbol and its state.
+pub(crate) const SYMBOL_SIZE: usize = 8;
+
+pub(crate) const PLACE_SIZE: usize = 9;
+
 // That these are bytes is said, too: of an array that a caller was handed its proof does not know it.
 pub(crate) fn rank(symbol: &[u8]) -> u64
     requires { ⌜ length (now symbol) ≡ symbolSize ⌝ }
@@ -23,6 +28,6 @@ pub(crate) fn rank_at(list: &[u8], i: usize) -> u64
     requires { ⌜ placeSize * i + symbolSize ≤ length (now list) ⌝ }
     ensures { λ r. ⌜ r ≡ rankAt (now (list .entry)) i ⌝ }
 {
-    let symbol = bytes8_at(list, 9 * i);
+    let symbol = bytes8_at(list, PLACE_SIZE * i);
     rank(&symbol)
 }

@@ -1,6 +1,5 @@
 -- The law of find: a token means its first used record, whatever order the code compares in. Assumes nothing.
-use Rattle.octets.proofs.Proving.{List, _<_, _∙_, _≡_, _≤_, ap, arith, false≢true, sym, true, ℕ}
-use Rattle.octets.specs.Choice.{firstBelow}
+use Rattle.octets.proofs.Proving.{List, _<_, _∙_, _≡_, _≤_, ap, false≢true, sym, true, ℕ}
 use Rattle.octets.specs.Bytes.{same}
 use Rattle.octets.proofs.Below.{same-true, same-self}
 use Rattle.octets.proofs.First.{first-is, first-none}

@@ -1,7 +1,6 @@
 -- The list of stocks and its halts (Ask 2): what O and U come to, the new entry, and lists that are refused. Rows and columns as in the worked
 -- numbers.
 use Prim.Native.Nat.{ℕ}
-use Prim.Native.String.{String}
 use mathlib.Core.Bool.{Bool, not}
 use mathlib.Core.List.{List, [], _∷_}
 use lib.Dec.{eqb}
@@ -10,11 +9,11 @@ use Rattle.octets.specs.Bytes.{same, zeros}
 use Rattle.answers.specs.Answer.{answerNumber}
 use Rattle.stocks.specs.Stocks.{listGood, standingIn, withState}
 use Rattle.stocks.specs.Standing.{isListed, isHalted}
-use Rattle.host.specs.Step.{World, world, step}
+use Rattle.host.specs.Step.{world, step}
 use Rattle.worked.specs.Play.{small, play, _lending_}
 use Rattle.worked.specs.Entries.{start, good, replace, cancel, execute, halt, haltedThen, begun, entered, enteredLate, closing, stampedAt, _then_, _inStock_}
-use Rattle.worked.specs.Messages.{nothing, isAcceptedGood, isReplaced, isCanceled, isExecuted, isRejected}
-use Rattle.worked.specs.Case.{Case, after_offer_answers_sends_leaves_, playedOn, crowded, liveOrder, deadOrder, free, usedUp, intact}
+use Rattle.worked.specs.Messages.{nothing, isAcceptedGood, isCanceled, isExecuted, isRejected}
+use Rattle.worked.specs.Case.{Case, after_offer_answers_sends_leaves_, playedOn, crowded, liveOrder, usedUp, intact}
 
 unfoldable pub halts : List Case
 halts =

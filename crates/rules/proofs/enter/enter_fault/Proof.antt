@@ -1,5 +1,5 @@
 -- The tests from the last to the first. Assumes nothing.
-use Rattle.octets.proofs.Proving.{needs, unasked}
+use Rattle.octets.proofs.Proving.{unasked}
 use Rattle.rules.specs.Enter.{enterFault}
 use Rattle.rules.proofs.enter.enter_fault.Statement.{statement}
 use Rattle.rules.proofs.enter.enter_fault.Tie as tie

@@ -1,5 +1,5 @@
 -- As the comparison says. Assumes nothing.
-use Rattle.octets.proofs.Proving.{_∙_, le-leb, lt-leb, needs, subst, sym, ℕ, _≤_, _<_}
+use Rattle.octets.proofs.Proving.{le-leb, lt-leb, needs}
 use Rattle.stocks.proofs.find.moved.Statement.{statement}
 use Rattle.stocks.proofs.find.moved.Tie as tie
 

@@ -1,5 +1,5 @@
 -- The size, and then each place; where the size is wrong no place is looked at. Assumes nothing.
-use Rattle.octets.proofs.Proving.{Bool, _&&_, _∙_, ap, arith, needs, sym, ℕ}
+use Rattle.octets.proofs.Proving.{Bool, _&&_, _∙_, ap, needs, sym, ℕ}
 use Rattle.octets.specs.Choice.{allBelow}
 use Rattle.stocks.specs.Stocks.{placesIn, sizeGood, placeGood, listGood}
 use Rattle.stocks.proofs.judge.list_good.Statement.{statement}

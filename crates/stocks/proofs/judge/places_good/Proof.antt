@@ -1,8 +1,7 @@
 -- The loop's invariant: each place before i is right, and `last` is the number of the one right before it. The measure is what is left of n.
 -- Assumes nothing.
-use Rattle.octets.proofs.Proving.{Bool, _&&_, _+_, _-_, _<_, _∙_, _≡_, _≤_, ap, ap₂, arith, ltb, needs, not-false, not-true, sym, true, ℕ}
+use Rattle.octets.proofs.Proving.{Bool, _&&_, _+_, _-_, _<_, _∙_, _≡_, _≤_, ap, arith, ltb, needs, not-false, not-true, sym, true, ℕ}
 use Rattle.octets.specs.Choice.{allBelow}
-use Rattle.wire.specs.Legal.{Bytes}
 use Rattle.stocks.specs.Stocks.{placeGood}
 use Rattle.stocks.specs.Ranks.{rankAt}
 use Rattle.stocks.proofs.Good.{first-judged, state-fails, orders-fail, pair-passes, last-judged}

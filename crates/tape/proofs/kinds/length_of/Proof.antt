@@ -1,5 +1,5 @@
 -- The table of lengths says what the layouts say. Assumes nothing.
-use Rattle.octets.proofs.Proving.{List, [], _<_, _∙_, _∷_, _≡_, ap, arith, getD, refl, unasked, ℕ}
+use Rattle.octets.proofs.Proving.{List, [], _<_, _∷_, _≡_, arith, getD, refl, unasked, ℕ}
 use Rattle.tape.specs.Kinds.{Kind, Enters, Replaces, Cancels, Modifies, Executes, BookCancels, SelfMatches, Prioritises, TurnsLate, EndsCross, TellsDay, SetsStock, Unknown, kindPlace, layoutOf}
 use Rattle.tape.proofs.kinds.length_of.Statement.{statement}
 use Rattle.tape.proofs.kinds.length_of.Tie as tie
