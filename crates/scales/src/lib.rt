@@ -1,4 +1,4 @@
-// Four functions behind a C door of their own, for the benchmark to weigh by themselves: a step does all of this and more, and the host's door
+// Five functions behind a C door of their own, for the benchmark to weigh by themselves: a step does all of this and more, and the host's door
 // calls none of them.
 use answers::number;
 use outbox::marks::Marks;
@@ -6,6 +6,7 @@ use outbox::put::put;
 use stocks::find::standing;
 use stocks::judge::list_good;
 use stocks::standing::Standing;
+use table::find::find;
 use table::sound::sound;
 ghost use mathlib.Core.Path.{_≡_};
 ghost use mathlib.Core.Bool.{true};
@@ -14,7 +15,7 @@ ghost use Rattle.answers.specs.Answer.{answerNumber};
 ghost use Rattle.outbox.specs.Outbox.{putMoved, putRing};
 ghost use Rattle.stocks.specs.Limits.{symbolSize};
 ghost use Rattle.stocks.specs.Stocks.{listGood, standingIn};
-ghost use Rattle.table.specs.Table.{sound};
+ghost use Rattle.table.specs.Table.{sound, placeOf};
 ghost use Rattle.octets.specs.Choice.{pick};
 ghost use Rattle.scales.specs.Numbers.{marks, standingNumber};
 
@@ -24,6 +25,14 @@ pub extern "C" fn pq_sound(table: &[u8]) -> u8
     ensures { λ r. ⌜ r ≡ pick (sound (now (table .entry))) 1 0 ⌝ }
 {
     if sound(table) { 1 } else { 0 }
+}
+
+// The place of a token's first used record; the number of used records where none has it.
+#[no_mangle]
+pub extern "C" fn pq_find(table: &[u8], token: &[u8; 14]) -> usize
+    ensures { λ r. ⌜ r ≡ placeOf (now (table .entry)) (now (token .entry)) ⌝ }
+{
+    find(table, *token)
 }
 
 // A message behind the held bytes; the caller counts them.

@@ -13,6 +13,8 @@ mod rows;
 #[cfg(weighed)]
 mod scales;
 mod scene;
+#[cfg(any(weighed, test))]
+mod search;
 
 use std::env;
 use std::process::ExitCode;
@@ -35,7 +37,9 @@ fn main() -> ExitCode {
         return ExitCode::FAILURE;
     };
     if !cfg!(weighed) {
-        eprintln!("no libscales.a beside the archive: sound, put and the list alone are left out");
+        eprintln!(
+            "no libscales.a beside the archive: sound, find, put and the list alone are left out"
+        );
     }
     println!("| what | proved | beside | its time | ratio | over {runs} runs | claim |");
     println!("|---|---|---|---|---|---|---|");
@@ -50,7 +54,7 @@ fn run() -> Vec<Row> {
     let mut rows: Vec<Row> = USED.into_iter().flat_map(rows::steps).collect();
     rows.push(rows::step_over_a_long_list());
     #[cfg(weighed)]
-    rows.extend(rows::weighed(USED));
+    rows.extend(rows::weighed(&USED));
     rows.extend(rows::release_alone());
     let messages = scene::messages();
     rows.extend(

@@ -12,7 +12,7 @@ use crate::race::{CALLS, race, timed};
 use crate::ring;
 use crate::scene::{Scene, long_list};
 #[cfg(weighed)]
-use crate::{find, list, scales};
+use crate::{find, list, scales, scene::Alike, search};
 
 /// A ring that has room for what a turn of steps sends.
 const RING_LEN: usize = 4_096;
@@ -90,13 +90,17 @@ pub fn step_over_a_long_list() -> Row {
     Row::new(what, step, "plain, the same job", whole, None)
 }
 
-/// What a step calls, by itself: judging tables with so many used records, judging and searching a
-/// list, and a put.
+/// What a step calls, by itself: judging and searching tables with so many used records, judging
+/// and searching a list, and a put.
 #[cfg(weighed)]
-pub fn weighed(used: impl IntoIterator<Item = usize>) -> Vec<Row> {
-    let sounds = used.into_iter().map(sound_alone);
+pub fn weighed(used: &[usize]) -> Vec<Row> {
+    let sounds = used.iter().map(|&used| sound_alone(used));
+    // In a table of one record every token is found at once.
+    let searched = used.iter().copied().filter(|&used| used > 1);
+    let searches = searched.flat_map(searches_alone);
     let lists = [judge_alone(), find_alone()];
-    sounds.chain(lists).chain(put_alone()).collect()
+    let rows = sounds.chain(searches).chain(lists).chain(put_alone());
+    rows.collect()
 }
 
 #[cfg(weighed)]
@@ -109,6 +113,49 @@ fn sound_alone(used: usize) -> Row {
     let claim = (used > 1).then_some(0.6);
     let what = format!("sound, {used} used");
     Row::new(&what, proved, "plain, judged alike", other, claim)
+}
+
+/// The last token of a table looked for, where all are alike in front and where all are at the end.
+/// Which of the two is found sooner shows from which end tokens are compared.
+#[cfg(weighed)]
+fn searches_alone(used: usize) -> Vec<Row> {
+    let front = Scene::of(used, Alike::InFront);
+    let end = Scene::of(used, Alike::AtTheEnd);
+    let what = format!("find, {used} used, alike in front");
+    let mut rows = search_alone(&what, &front, Some(0.5));
+    let other = format!("find, {used} used, alike at the end");
+    rows.extend(search_alone(&other, &end, None));
+    let mut in_front = || searched(&front, scales::find);
+    let mut at_the_end = || searched(&end, scales::find);
+    let [sooner, later] = race([&mut in_front, &mut at_the_end]);
+    let beside = "the same, alike at the end";
+    rows.push(Row::new(&what, sooner, beside, later, Some(1.0)));
+    rows
+}
+
+/// Beside plain Rust in both directions, by its own comparison of arrays, and in words.
+#[cfg(weighed)]
+fn search_alone(what: &str, scene: &Scene, of_forwards: Option<f64>) -> Vec<Row> {
+    let [proved, forwards, backwards, equality, words] = race([
+        &mut || searched(scene, scales::find),
+        &mut || searched(scene, search::forwards),
+        &mut || searched(scene, search::backwards),
+        &mut || searched(scene, search::by_equality),
+        &mut || searched(scene, search::in_words),
+    ]);
+    vec![
+        Row::new(what, proved, "plain, forwards", forwards, of_forwards),
+        Row::new(what, proved, "plain, backwards", backwards, Some(1.0)),
+        Row::new(what, proved, "plain: ==", equality, Some(1.0)),
+        Row::new(what, proved, "plain, in words", words, Some(1.0)),
+    ]
+}
+
+/// A turn of searches for the scene's token, which its last used record has.
+#[cfg(weighed)]
+fn searched(scene: &Scene, find: fn(&[u8], &[u8; 14]) -> usize) -> Duration {
+    let last = plain::used(&scene.table).len() - 1;
+    timed(|| assert_eq!(find(black_box(&scene.table), black_box(&scene.token)), last))
 }
 
 /// The longest list judged. A good one is judged to its end.

@@ -6,6 +6,7 @@ use pilaqsevi::{Marks, SYMBOL_SIZE};
 
 unsafe extern "C" {
     fn pq_sound(table: *const u8, table_len: usize) -> u8;
+    fn pq_find(table: *const u8, table_len: usize, token: *const [u8; 14]) -> usize;
     fn pq_put(
         ring: *mut u8,
         ring_len: usize,
@@ -27,6 +28,13 @@ unsafe extern "C" {
 pub fn sound(table: &[u8]) -> bool {
     // SAFETY: the pointer comes with its slice's length, and the function keeps none.
     unsafe { pq_sound(table.as_ptr(), table.len()) == 1 }
+}
+
+/// The place of the token's first used record; the number of used records where none has it.
+pub fn find(table: &[u8], token: &[u8; 14]) -> usize {
+    // SAFETY: the pointer comes with its slice's length, the token has its fourteen bytes, and the
+    // function keeps neither.
+    unsafe { pq_find(table.as_ptr(), table.len(), token) }
 }
 
 /// Whether the list of stocks is good.

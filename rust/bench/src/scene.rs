@@ -23,16 +23,29 @@ pub struct Scene {
     pub to_and_fro: [Vec<u8>; 2],
 }
 
+/// Which nine characters all tokens of a table share; in the other five each has its number.
+#[derive(Clone, Copy)]
+pub enum Alike {
+    /// A client's running number, as most have it.
+    InFront,
+    AtTheEnd,
+}
+
 impl Scene {
     /// A day that is open, with so many live orders to sell, all in the one stock that is listed.
     pub fn new(used: usize) -> Scene {
+        Scene::of(used, Alike::InFront)
+    }
+
+    /// The same, with tokens that are alike there.
+    pub fn of(used: usize, alike: Alike) -> Scene {
         let mut table = vec![0; 64 + 80 * RECORDS];
         assert_eq!(fresh(&mut table, 1_000_000, &[*b"ABCD"]), 0);
         offer(&mut table, &[b"s".as_slice(), &STAMP, b"S"].concat());
         for order in 1..=used {
-            offer(&mut table, &enter(&token(order)));
+            offer(&mut table, &enter(&token(order, alike)));
         }
-        let token = token(used);
+        let token = token(used, alike);
         let modify = |side| [b"M".as_slice(), &STAMP, &token, side, &SHARES].concat();
         Scene {
             table,
@@ -50,11 +63,15 @@ fn offer(table: &mut [u8], entry: &[u8]) {
     assert_eq!(told.answer, 0);
 }
 
-/// Tokens that differ at the end, as a client's running number does.
-fn token(order: usize) -> [u8; 14] {
-    let mut token = *b"CLIENT        ";
-    token[6..].copy_from_slice(format!("{order:08}").as_bytes());
-    token
+fn token(order: usize, alike: Alike) -> [u8; 14] {
+    let shared = "CLIENT000";
+    let text = match alike {
+        Alike::InFront => format!("{shared}{order:05}"),
+        Alike::AtTheEnd => format!("{order:05}{shared}"),
+    };
+    text.as_bytes()
+        .try_into()
+        .expect("nine characters and five digits")
 }
 
 fn enter(token: &[u8; 14]) -> Vec<u8> {
@@ -109,7 +126,7 @@ pub fn messages() -> Vec<(bool, Vec<u8>)> {
 
 #[cfg(test)]
 mod tests {
-    use super::{RECORDS, Scene, long_list, messages};
+    use super::{Alike, RECORDS, Scene, long_list, messages};
     use crate::{list, plain};
 
     #[test]
@@ -125,6 +142,21 @@ mod tests {
                 }
                 assert!(scene.table == first);
             }
+        }
+    }
+
+    #[test]
+    fn tokens_are_alike_where_they_should_be() {
+        for (alike, shared) in [(Alike::InFront, 0..9), (Alike::AtTheEnd, 5..14)] {
+            let Scene { table, token, .. } = Scene::of(RECORDS, alike);
+            let tokens = plain::used(&table).iter().map(|row| &row[1..15]);
+            assert!(
+                tokens
+                    .clone()
+                    .all(|other| other[shared.clone()] == token[shared.clone()])
+            );
+            let distinct: std::collections::BTreeSet<&[u8]> = tokens.collect();
+            assert_eq!(distinct.len(), RECORDS);
         }
     }
 
