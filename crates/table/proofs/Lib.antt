@@ -1,5 +1,5 @@
 pub mod Opened
-pub mod Tokens
+pub mod Backwards
 pub mod Stored
 pub mod Soundness
 pub mod Keeps
