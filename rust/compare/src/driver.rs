@@ -7,6 +7,7 @@
 use pilaqsevi::Marks;
 use second::tapes::{Chance, Tapes, damage, good_list, message, settings, sound_table, worn_out};
 
+use crate::alike::Alike;
 use crate::command::{Command, Echo, Settings};
 use crate::desk::Desk;
 use crate::difference::Difference;
@@ -17,6 +18,8 @@ use crate::tally::Tally;
 /// The answers that the driver itself acts on.
 const DONE: u8 = 0;
 const BLOCKED: u8 = 9;
+/// Those that are given before a token is looked for.
+const NOT_LOOKED_FOR: [u8; 6] = [10, 11, 14, 2, 3, 4];
 /// A table's bytes without its records, and a record's.
 const HEADER_LEN: usize = 64;
 const RECORD_LEN: usize = 80;
@@ -372,12 +375,19 @@ impl<S: Sink> Driver<S> {
     fn give(&mut self, command: &Command) -> Told<u8> {
         self.expected.clear();
         let held = self.desk.marks.held;
+        let alike = match command {
+            Command::Step(entry) => Alike::of(entry, &self.desk.table),
+            _ => Alike::default(),
+        };
         self.desk.obey(&Second, command, &mut self.expected);
         self.tally.count(command, &self.expected);
         self.sink.take(command, &self.expected)?;
         let answer = self.expected.first().copied().unwrap_or(DONE);
         if let (Command::Step(entry), DONE) = (command, answer) {
             self.tally.count_done(entry, &self.desk.sent_since(held));
+        }
+        if !NOT_LOOKED_FOR.contains(&answer) {
+            self.tally.count_alike(&alike);
         }
         Ok(answer)
     }

@@ -1,9 +1,10 @@
 //! A tally of a script: how many calls of each kind, how often each answer was right, at how many
-//! places a byte was bad, and what was done.
+//! places a byte was bad, what was done, and how often tokens were nearly alike.
 
 use std::collections::{BTreeMap, BTreeSet};
 use std::fmt::{self, Display, Formatter};
 
+use crate::alike::Alike;
 use crate::command::Command;
 
 /// The answers that a call can give, and the one that has a place.
@@ -26,6 +27,13 @@ pub struct Tally {
     pub done: BTreeMap<String, u64>,
     /// The Rejected messages that they sent, by kind and reason.
     pub rejects: BTreeMap<String, u64>,
+    /// The entries that named a token of which a record with another one has the first nine
+    /// characters, the last nine, or all but one.
+    pub alike_in_front: u64,
+    pub alike_at_the_end: u64,
+    pub alike_but_for_one: u64,
+    /// Where that one stood.
+    pub apart_at: BTreeSet<usize>,
     /// What the calls left in all, every byte of which was compared.
     pub bytes: u64,
 }
@@ -63,6 +71,14 @@ impl Tally {
             let what = format!("{kind} {}", char::from(*reason));
             *self.rejects.entry(what).or_default() += 1;
         }
+    }
+
+    /// Counts how nearly the tokens of an entry that was judged good were a record's.
+    pub fn count_alike(&mut self, alike: &Alike) {
+        self.alike_in_front += u64::from(alike.in_front);
+        self.alike_at_the_end += u64::from(alike.at_the_end);
+        self.alike_but_for_one += u64::from(!alike.apart_at.is_empty());
+        self.apart_at.extend(&alike.apart_at);
     }
 
     /// How many entries were offered, blocked ones counted each time.
@@ -103,6 +119,14 @@ impl Display for Tally {
                 .map(|(what, count)| format!("{what}: {count}"));
             write!(f, "{what} ({}), ", listed.collect::<Vec<_>>().join(", "))?;
         }
+        write!(
+            f,
+            "tokens alike (in front: {}, at the end: {}, but for one: {} at {} places), ",
+            self.alike_in_front,
+            self.alike_at_the_end,
+            self.alike_but_for_one,
+            self.apart_at.len()
+        )?;
         write!(f, "{} bytes compared", self.bytes)
     }
 }

@@ -271,6 +271,17 @@ fn a_script_rejects_often_and_does_more() {
     );
 }
 
+/// Tokens are told apart that share their first nine characters, their last nine, or all but one,
+/// wherever that stands.
+#[test]
+fn a_script_often_names_tokens_that_are_nearly_alike() {
+    let tally = Driver::drive(4, 100_000, Unheard).unwrap();
+    assert!(tally.alike_in_front > 5_000, "{tally}");
+    assert!(tally.alike_at_the_end > 5_000, "{tally}");
+    assert!(tally.alike_but_for_one > 5_000, "{tally}");
+    assert!(tally.apart_at.iter().copied().eq(0..14), "{tally}");
+}
+
 /// Lengths above the paper's are tried too.
 #[test]
 fn a_script_goes_beyond_the_longest_table_ring_and_list() {

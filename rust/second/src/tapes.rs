@@ -13,6 +13,7 @@ mod lists;
 mod look;
 mod made;
 mod messages;
+mod tokens;
 mod values;
 
 pub use chance::Chance;

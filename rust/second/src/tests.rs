@@ -16,4 +16,5 @@ mod ring;
 mod stocks;
 mod table;
 mod tapes;
+mod tokens;
 mod worked;

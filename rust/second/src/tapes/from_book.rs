@@ -2,6 +2,7 @@
 
 use super::chance::Chance;
 use super::look::{Look, Row};
+use super::tokens::token_to_name;
 use super::values as v;
 
 /// The liquidity flags.
@@ -124,7 +125,7 @@ fn opening(kind: u8, chance: &mut Chance, look: &Look, row: Option<Row>) -> Vec<
     [
         [kind].as_slice(),
         &v::stamp(chance, look).to_be_bytes(),
-        &v::token_to_name(chance, look, row),
+        &token_to_name(chance, look, row),
     ]
     .concat()
 }

@@ -2,6 +2,7 @@
 
 use super::chance::Chance;
 use super::look::{Look, Row};
+use super::tokens::{token_to_name, token_to_store};
 use super::values as v;
 
 pub fn enter(chance: &mut Chance, look: &Look) -> Vec<u8> {
@@ -10,7 +11,7 @@ pub fn enter(chance: &mut Chance, look: &Look) -> Vec<u8> {
     let mut entry = [
         b"O".as_slice(),
         &v::stamp(chance, look).to_be_bytes(),
-        &v::token_to_store(chance, look),
+        &token_to_store(chance, look),
         &[chance.pick(b"BSTE")],
         &shares.to_be_bytes(),
         &v::stock(chance, look),
@@ -49,11 +50,11 @@ fn add_faults(chance: &mut Chance, look: &Look, entry: &mut [u8]) {
 
 pub fn replace(chance: &mut Chance, look: &Look) -> Vec<u8> {
     let row = to_replace(chance, look);
-    let existing = v::token_to_name(chance, look, row);
+    let existing = token_to_name(chance, look, row);
     let replacement = if chance.one_in(25) {
         existing
     } else {
-        v::token_to_store(chance, look)
+        token_to_store(chance, look)
     };
     let shares = shares_to_replace(chance, look, row);
     let new_open = shares.saturating_sub(row.map_or(0, Row::spent));
@@ -103,7 +104,7 @@ pub fn cancel(chance: &mut Chance, look: &Look) -> Vec<u8> {
     [
         b"X".as_slice(),
         &v::stamp(chance, look).to_be_bytes(),
-        &v::token_to_name(chance, look, row),
+        &token_to_name(chance, look, row),
         &size.to_be_bytes(),
     ]
     .concat()
@@ -125,7 +126,7 @@ pub fn modify(chance: &mut Chance, look: &Look) -> Vec<u8> {
     [
         b"M".as_slice(),
         &v::stamp(chance, look).to_be_bytes(),
-        &v::token_to_name(chance, look, row),
+        &token_to_name(chance, look, row),
         &[side],
         &shares.to_be_bytes(),
     ]

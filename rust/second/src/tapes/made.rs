@@ -1,7 +1,8 @@
 //! Tables made by hand: sound, but in states that no tape would reach.
 
 use super::chance::Chance;
-use super::values::{STAMPS_END, new_token};
+use super::tokens::{near_token, new_token};
+use super::values::STAMPS_END;
 
 /// 10^18, the highest next reference.
 const REFERENCES_END: u64 = 10_u64.pow(18);
@@ -61,10 +62,11 @@ fn header(chance: &mut Chance, used: usize) -> Vec<u8> {
     .concat()
 }
 
-/// Mostly a new token; now and then one that an earlier row has.
+/// Mostly a new token; now and then one that an earlier row has, or has nearly.
 fn token(chance: &mut Chance, stored: &[[u8; 14]]) -> [u8; 14] {
-    match chance.choose(stored) {
-        Some(&token) if chance.one_in(10) => token,
+    match (chance.below(10), chance.choose(stored)) {
+        (0, Some(&token)) => token,
+        (1 | 2, Some(&token)) => near_token(chance, token),
         _ => new_token(chance),
     }
 }

@@ -3,7 +3,8 @@
 use super::chance::Chance;
 use super::damage;
 use super::judged::{Field, Judged, of_message};
-use super::values::{STAMPS_END, new_token};
+use super::tokens::new_token;
+use super::values::STAMPS_END;
 
 /// Inbound or not, the type, and the whole length.
 const KINDS: [(bool, u8, usize); 16] = [

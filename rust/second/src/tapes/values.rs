@@ -28,8 +28,6 @@ const BAD_STOCKS: [[u8; 8]; 11] = [
     *b"\0\0\0\0\0\0\0\0",
     *b"A      A",
 ];
-/// Characters that a token may hold.
-const TOKEN_CHARACTERS: &[u8] = b"ABCXYZabcxyz0189 ";
 
 /// Equal to the last, growing, and now and then below it or at the day's end.
 pub fn stamp(chance: &mut Chance, look: &Look) -> u64 {
@@ -43,44 +41,6 @@ pub fn stamp(chance: &mut Chance, look: &Look) -> u64 {
         _ => last.saturating_add(chance.below(50_000_000)),
     };
     wanted.min(STAMPS_END - 1)
-}
-
-/// A token of random characters, which is almost surely unused; now and then all spaces.
-pub fn new_token(chance: &mut Chance) -> [u8; 14] {
-    if chance.one_in(150) {
-        return [b' '; 14];
-    }
-    std::array::from_fn(|_| chance.pick(TOKEN_CHARACTERS))
-}
-
-/// A token that differs from a used one in a single place, which may be an end.
-fn near_token(chance: &mut Chance, mut token: [u8; 14]) -> [u8; 14] {
-    let place = chance.pick(&[0, 13, 6, 7, 12]);
-    token[place] = chance.pick(TOKEN_CHARACTERS);
-    token
-}
-
-/// A token for a new order: mostly a new one.
-pub fn token_to_store(chance: &mut Chance, look: &Look) -> [u8; 14] {
-    let used = chance.choose(&look.records()).map(|row| row.token());
-    match (chance.below(100), used) {
-        (0..=7, Some(token)) => token,
-        (8..=14, Some(token)) => near_token(chance, token),
-        _ => new_token(chance),
-    }
-}
-
-/// A token to act on: mostly the wanted row's.
-pub fn token_to_name(chance: &mut Chance, look: &Look, wanted: Option<Row>) -> [u8; 14] {
-    let used = chance.choose(&look.records()).map(|row| row.token());
-    match (chance.below(100), wanted, used) {
-        (0..=4, _, Some(token)) => token,
-        (5..=7, _, Some(token)) => near_token(chance, token),
-        (8, _, _) => new_token(chance),
-        (_, Some(row), _) => row.token(),
-        (_, None, Some(token)) => token,
-        (_, None, None) => new_token(chance),
-    }
 }
 
 /// Shares wherever a rule about this row turns, or anything between.
