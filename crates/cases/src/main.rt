@@ -1,6 +1,6 @@
 // Plays the paper's worked numbers, the errors that students really make, the order of answers, the places that they tell, the order of reject
-// letters, other settings, and halts through the host, and prints a line for each: what should happen and what did. The last line counts those that
-// agree.
+// letters, other settings, halts, and intended sizes after a self match through the host, and prints a line for each: what should happen and what
+// did. The last line counts those that agree.
 mod answers_order;
 mod entries;
 mod errors;
@@ -12,6 +12,7 @@ mod places;
 mod row;
 mod run;
 mod script;
+mod sizes;
 mod text;
 mod told;
 mod worked;
@@ -23,6 +24,7 @@ use crate::houses::houses;
 use crate::letters::letters;
 use crate::places::places;
 use crate::row::Tally;
+use crate::sizes::sizes;
 use crate::worked::worked;
 use libc::STDOUT_FILENO;
 
@@ -32,7 +34,7 @@ fn main() {
         b"an order: token, state, liable-executed-self-matched=open, time in force\n",
     );
     let none = Tally { tried: 0, agree: 0 };
-    let tally = halts(houses(letters(places(answers(errors(worked(none)))))));
+    let tally = sizes(halts(houses(letters(places(answers(errors(worked(none))))))));
     io::print_decimal(STDOUT_FILENO, tally.agree);
     io::write_all(STDOUT_FILENO, b" of ");
     io::print_decimal(STDOUT_FILENO, tally.tried);

@@ -78,6 +78,8 @@ fn message(sent: &[u8], out: &mut [u8]) -> usize {
         b'C' => with_number(sent, b"Canceled ", 23, out),
         b'E' => with_number(sent, b"Executed ", 23, out),
         b'J' => with_letter(sent, b"Rejected ", 23, out),
+        b'P' => put(out, 0, b"Cancel Pending"),
+        b'I' => put(out, 0, b"Cancel Reject"),
         b'M' => with_number(sent, b"Modified ", 24, out),
         _ => with_letter(sent, b"type ", 0, out),
     }

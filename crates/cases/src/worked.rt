@@ -16,7 +16,7 @@ pub(crate) fn worked(tally: Tally) -> Tally {
 5 Cancel 50: dead                         s O500 e100 X50                       Canceled 400, A dead 100-100-0=0, B free
 5 Cancel 500: ignored                     s O500 e100 X500                      answer 1, nothing changed
 6 self match 50, Replace 500              s O500 e100 q50 U500                  Replaced 350, A dead 150-100-50=0, B live 500-100-50=350 for 99999
-7 self match 50, Cancel 300               s O500 e100 q50 X300                  Canceled 200, A live 300-100-50=150 for 99999, B free
+7 self match 50, Cancel 300 (Ask 4)       s O500 e100 q50 X300                  Canceled 150, A live 350-100-50=200 for 99999, B free
 8 Modify 300                              s O500 e100 M300                      Modified 200, A live 300-100-0=200 for 99999, B free
 8 Modify 501: ignored                     s O500 e100 M501                      answer 1, nothing changed
 9 Replace 1,000,000 while late            s C O500 e100 l U1000000              Rejected R, A live 500-100-0=400 for 99999 intact, B rejected

@@ -1,6 +1,7 @@
 pub mod Plays
 pub mod Ledger
 pub mod Tokens
+pub mod Limits
 pub mod Telling
 pub mod Chains
 pub mod Day

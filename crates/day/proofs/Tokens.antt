@@ -1,5 +1,5 @@
 -- A token once used stays used: no entry takes a record's token away, and the used records only grow. Assumes nothing.
-use Rattle.octets.proofs.Proving.{Bool, List, [], _<_, _∙_, _≡_, _≤_, _⊎_, ap, arith, decLt, false, false≢true, inl, inr, length, refl, subst, sym, true, ℕ, ℕ-discrete}
+use Rattle.octets.proofs.Proving.{List, [], _<_, _∙_, _≡_, _≤_, _⊎_, ap, arith, decLt, false≢true, inl, inr, refl, subst, sym, true, ℕ}
 use Rattle.answers.specs.Answer.{isDone}
 use Rattle.orders.specs.Order.{isUsed, noOrder}
 use Rattle.table.specs.Table.{header, usedIn, orderAt, placeOf, orderNamed, recordBytes, sound}
@@ -7,16 +7,11 @@ use Rattle.orders.specs.declared.order.Order.{Order}
 use Rattle.orders.proofs.Standing.{Live, Dead, Rejected}
 use Rattle.table.proofs.Soundness.{Sound, of-sound}
 use Rattle.table.proofs.Finding.{found, not-found}
-use Rattle.rules.specs.declared.plan.Decision.{Decision}
-use Rattle.laws.proofs.Shapes.{Change, unchanged, changed, change-of}
-use Rattle.outbox.specs.Outbox.{ringGood}
-use Rattle.stocks.specs.Stocks.{listGood}
-use Rattle.host.specs.Step.{Books, World, Outcome, comesTo, booksAfter, worldAfter, step}
-use Rattle.laws.proofs.Given.{from-is, from-none, live-there, none-unused}
-use Rattle.laws.proofs.Standing.{standing-used}
-use Rattle.laws.proofs.Sounds.{S, P, K, keeps, p, place, o, one}
-use Rattle.laws.proofs.Records.{Face, left, left-used, changed-face, unchanged-face, unchanged-faces, earlier-face}
-use Rattle.laws.proofs.Steps.{stepBy, step-by, comes, full}
+use Rattle.host.specs.Step.{Books, World, comesTo, booksAfter, worldAfter, step}
+use Rattle.laws.proofs.Given.{from-is, from-none, none-unused}
+use Rattle.laws.proofs.Sounds.{S, keeps}
+use Rattle.laws.proofs.Records.{left, written, left-used, each-record}
+use Rattle.laws.proofs.Steps.{either}
 use Rattle.day.specs.Day.{unlimited, booksWith}
 use Rattle.day.proofs.Plays.{plays}
 
@@ -59,26 +54,12 @@ module _ (books : Books) (s : List ℕ) (ok : sound (books .table) ≡ true) (do
   abbrev t : List ℕ
   t = books .table
 
-  abbrev at : ℕ
-  at = place books s ok done
-
   pub tokens-stay : (i : ℕ) → i < header t .used → orderAt (left books s ok done) i .token ≡ orderAt t i .token
-  tokens-stay i l = ap (λ (x : Face). x .token) (earlier-face books s ok done i l) ∙ by (change-of (K books s ok done .1 .1 .shape))
-    where
-      by : Change (o books s ok done) (p books s ok done .notice) (p books s ok done .changed) → orderAt (one books s ok done) i .token ≡ orderAt t i .token
-      by (unchanged e) = ap (λ (x : Face). x .token) (unchanged-faces books s ok done (ap isUsed e ∙ none-unused) i)
-      by (changed c) = elim (ℕ-discrete i at) [
-        | yes e ↦
-            rw e
-            (ap (λ (x : Face). x .token) (changed-face books s ok done (standing-used _ (c .standing)))
-            ∙ c .token
-            ∙ ap (λ (q : Order). q .token) (from-is t at (live-there t at (c .alive))))
-        | no e ↦ ap (λ (x : Face). x .token) (unchanged-face books s ok done i e)
-      ]
+  tokens-stay = each-record books s ok done (λ x y. y .token ≡ x .token) (λ x. refl) (λ c. c .token)
 
   pub left-is : left books s ok done ≡ booksWith books s (comesTo books s .plan) .table
   unfolding booksAfter
-  left-is = ap (λ (d : Decision). booksWith books s (d .plan) .table) (sym (P books s ok done .is))
+  left-is = sym (written books s ok done)
 
   pub stays-used : (token : List ℕ) → isUsed (orderNamed t token) ≡ true → isUsed (orderNamed (booksWith books s (comesTo books s .plan) .table) token) ≡ true
   unfolding booksAfter
@@ -92,23 +73,14 @@ module _ (books : Books) (s : List ℕ) (ok : sound (books .table) ≡ true) (do
 -- ---- any step, and any tape
 
 module _ (w : World) (s token : List ℕ) where
-  abbrev Used : Outcome → Type 0
-  Used o = isUsed (orderNamed (o .world .books .table) token) ≡ true
+  abbrev Used : World → Type 0
+  Used x = isUsed (orderNamed (x .books .table) token) ≡ true
 
-  by : (tableGood ringRight listRight done crowd : Bool) → sound (w .books .table) ≡ tableGood → isDone (comes w s .answer) ≡ done
-      → isUsed (orderNamed (w .books .table) token) ≡ true → Used (stepBy w s (comes w s) tableGood ringRight listRight done crowd)
+  pub step-stays-used : Used w → Used (step w s .world)
   unfolding worldAfter booksAfter
-  by false r l d crowd g e u = u
-  by true false l d crowd g e u = u
-  by true true false d crowd g e u = u
-  by true true true false crowd g e u = u
-  by true true true true true g e u = u
-  by true true true true false g e u = stays-used (w .books) s g e token u
-
-  pub step-stays-used : isUsed (orderNamed (w .books .table) token) ≡ true → isUsed (orderNamed (step w s .world .books .table) token) ≡ true
   step-stays-used u =
-      subst Used (sym (step-by w s))
-      (by (sound (w .books .table)) (ringGood (length (w .ring)) (w .marks)) (listGood (w .books .stocks)) (isDone (comes w s .answer)) (full w s) refl refl u)
+      either w s (λ e. subst Used (sym e) u)
+      λ _ d. subst Used (sym (d .world)) (stays-used (w .books) s (d .ready .table) (d .comes-done) token u)
 
 pub used-for-good : (ss : List (List ℕ)) (b : Books) (token : List ℕ) → sound (b .table) ≡ true → isUsed (orderNamed (b .table) token) ≡ true
     → isUsed (orderNamed (unlimited b ss .books .table) token) ≡ true

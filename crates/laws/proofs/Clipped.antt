@@ -124,7 +124,7 @@ whole-clipped o s =
     }
 
 -- and the numbers that are judged are what they were
-counts-stay : (s : Counts) → s .executed .0 ≤ mostShares → s .matched .0 ≤ mostShares → s .liable .0 ≤ mostShares → clippedCounts s ≡ s
+pub counts-stay : (s : Counts) → s .executed .0 ≤ mostShares → s .matched .0 ≤ mostShares → s .liable .0 ≤ mostShares → clippedCounts s ≡ s
 unfolding clippedCounts
 counts-stay s e m l =
     let a = clip-same 4 (s .liable .0) (omega arith) in

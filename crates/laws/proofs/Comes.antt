@@ -25,7 +25,6 @@ use Rattle.stocks.specs.Stocks.{standingIn}
 use Rattle.rules.specs.Plan.{noStock, refused}
 use Rattle.rules.specs.Enter.{enterRule}
 use Rattle.rules.specs.Replace.{replaceRule}
-use Rattle.market.specs.Halt.{haltRule}
 use Rattle.host.specs.Step.{Books, namedPlace, decideBy, decide, noRecordFree, noReferenceLeft, withinLimits, comesTo}
 use Rattle.host.proofs.Offers.{judged-good}
 use Rattle.laws.specs.Blocked.{isBlocked}
@@ -254,10 +253,10 @@ module _ (books : Books) (s : List ℕ) (ok : Sound (books .table)) (legal : ent
   unfolding decide
   decide-keeps = kind-keeps (kindOf s) refl
 
-  -- what an h comes to
-  pub halt-decided : kindOf s ≡ SetsStock → decide books s ≡ haltRule (standingIn (books .stocks) (stockStateOf s .symbol)) (stockStateOf s)
-  unfolding decide decideBy
-  halt-decided e = ap (λ (k : Kind). decideBy k h named found (books .stocks) s) e
+  -- the rule of its kind decides
+  pub decided-by : (k : Kind) → kindOf s ≡ k → decide books s ≡ decideBy k h named found (books .stocks) s
+  unfolding decide
+  decided-by k e = ap (λ (x : Kind). decideBy x h named found (books .stocks) s) e
 
   -- another kind than h sets no stock's state
   pub decide-quiet : kindOf s ≢ SetsStock → decide books s .plan .stock ≡ noStock

@@ -1,10 +1,9 @@
 -- What a step does to the list of stocks: what a plan sets is set, and only h's plan sets anything. Assumes nothing.
-use Rattle.octets.proofs.Proving.{Bool, List, [], _∙_, _≡_, _≢_, _⊎_, ap, eqb, eqb-true, false, false≢true, getD, inl, inr, length, not, refl, subst, sym, true, ℕ}
+use Rattle.octets.proofs.Proving.{Bool, List, [], _∙_, _≡_, _≢_, _⊎_, ap, eqb, eqb-true, false, false≢true, getD, inl, inr, not, refl, sym, true, ℕ}
 use Rattle.octets.specs.Choice.{pick, among, _⇒_⨾_}
 use Rattle.answers.specs.Answer.{isDone}
 use Rattle.answers.proofs.Laws.{is-done}
 use Rattle.wire.specs.Letters.{stockStates}
-use Rattle.outbox.specs.Outbox.{ringGood}
 use Rattle.stocks.specs.Standing.{isListed}
 use Rattle.stocks.specs.Stocks.{listGood, standingIn, withState}
 use Rattle.stocks.proofs.Keeps.{set-keeps}
@@ -15,11 +14,11 @@ use Rattle.tape.specs.Entries.{stampOf, stockStateOf}
 use Rattle.rules.specs.Plan.{refused, setting}
 use Rattle.market.specs.Halt.{haltRule}
 use Rattle.notices.specs.Notices.{message, noticeBytes}
-use Rattle.host.specs.Step.{Books, World, Outcome, comesTo, setIf, booksAfter, worldAfter, step}
+use Rattle.host.specs.Step.{Books, World, decideBy, comesTo, setIf, booksAfter, worldAfter, step}
 use Rattle.laws.specs.Halts.{Halts, KeepsStocks}
 use Rattle.laws.proofs.Types.{NotLive, Decision, SetsStock, StockState, StockStanding}
-use Rattle.laws.proofs.Comes.{passed, isHalt, state-legal, halt-decided, decide-quiet}
-use Rattle.laws.proofs.Steps.{stepBy, step-by, comes, full, only-done-changes}
+use Rattle.laws.proofs.Comes.{passed, isHalt, state-legal, decided-by, decide-quiet}
+use Rattle.laws.proofs.Steps.{Does, done-does, either, comes}
 
 -- ---- a done h
 
@@ -61,9 +60,10 @@ module _ (books : Books) (s : List ℕ) (ok : sound (books .table) ≡ true) (do
       by false q d = absurd (false≢true d)
 
   sets : kindOf s ≡ SetsStock → Set
+  unfolding decideBy
   sets halt =
       let passed = passed books s done in
-      let is = passed .is ∙ halt-decided books s (of-sound (books .table) ok) (passed .legal) halt in
+      let is = passed .is ∙ decided-by books s (of-sound (books .table) ok) (passed .legal) SetsStock halt in
       let r = set-if (standingIn l (e .symbol)) (ap (λ (d : Decision). isDone (d .answer)) (sym is) ∙ done) in
       record { listed = r .0; plans = is ∙ r .1 }
 
@@ -95,61 +95,33 @@ module _ (w : World) (s : List ℕ) where
   after = step w s .world .books .stocks
 
   -- what is done sets what its plan sets
-  record DoneSets (o : Outcome) : Type 0 where
-    table : sound (w .books .table) ≡ true
-    right : listGood before ≡ true
-    comes-done : isDone (comes w s .answer) ≡ true
-    list : o .world .books .stocks ≡ setIf before (comes w s .plan .stock)
+  set-list : Does w s (step w s) → after ≡ setIf before (comes w s .plan .stock)
+  unfolding worldAfter booksAfter
+  set-list d = ap (λ (x : World). x .books .stocks) (d .world)
 
-  done-sets : isDone (step w s .answer) ≡ true → DoneSets (step w s)
-  unfolding worldAfter booksAfter isDone
-  done-sets h =
-      subst DoneSets (sym (step-by w s))
-      (by (sound (w .books .table)) (ringGood (length (w .ring)) (w .marks)) (listGood before) (isDone (comes w s .answer)) (full w s) refl refl refl
-      (ap (λ (o : Outcome). isDone (o .answer)) (sym (step-by w s)) ∙ h))
-    where
-      by : (tableGood ringRight listRight done crowd : Bool) → sound (w .books .table) ≡ tableGood → listGood before ≡ listRight
-          → isDone (comes w s .answer) ≡ done
-          → isDone (stepBy w s (comes w s) tableGood ringRight listRight done crowd .answer) ≡ true
-          → DoneSets (stepBy w s (comes w s) tableGood ringRight listRight done crowd)
-      by false r l d crowd g q e h = absurd (false≢true h)
-      by true false l d crowd g q e h = absurd (false≢true h)
-      by true true false d crowd g q e h = absurd (false≢true h)
-      by true true true false crowd g q e h = absurd (false≢true (sym e ∙ h))
-      by true true true true true g q e h = absurd (false≢true h)
-      by true true true true false g q e h = record { table = g; right = q; comes-done = e; list = refl }
+  untouched : step w s .world ≡ w → after ≡ before
+  untouched e = ap (λ (x : World). x .books .stocks) e
 
-  -- by whether it is done
-  either : {P : Type 0} → (isDone (step w s .answer) ≡ false → P) → (isDone (step w s .answer) ≡ true → P) → P
-  either {P} refusedIt doneIt = by (isDone (step w s .answer)) refl
-    where
-      by : (b : Bool) → isDone (step w s .answer) ≡ b → P
-      by false q = refusedIt q
-      by true q = doneIt q
-
-  untouched : isDone (step w s .answer) ≡ false → after ≡ before
-  untouched e = ap (λ (x : World). x .books .stocks) (only-done-changes w s e)
-
-  halts : kindOf s ≡ SetsStock → isDone (step w s .answer) ≡ true → Halts w s
-  halts halt e =
-      let d = done-sets e in
-      let to = d .list ∙ set-to (w .books) s (d .table) (d .comes-done) halt in
+  halts : kindOf s ≡ SetsStock → Does w s (step w s) → Halts w s
+  halts halt d =
+      let ok = d .ready .table in
+      let to = set-list d ∙ set-to (w .books) s ok (d .comes-done) halt in
       let known = state-legal s (passed (w .books) s (d .comes-done) .legal) halt in
-      let kept = set-keeps before (stockStateOf s .symbol) (stockStateOf s .state) (d .right) known in
+      let kept = set-keeps before (stockStateOf s .symbol) (stockStateOf s .state) (d .ready .stocks) known in
       record {
-        listed = sets (w .books) s (d .table) (d .comes-done) halt .listed;
+        listed = sets (w .books) s ok (d .comes-done) halt .listed;
         set = to;
         one-byte = λ k apart. ap (λ (l : List ℕ). getD l k 0) to ∙ kept .one-byte k apart;
-        sends-nothing = silent (w .books) s (d .table) (d .comes-done) halt;
+        sends-nothing = silent (w .books) s ok (d .comes-done) halt;
       }
 
   pub keeps-stocks : KeepsStocks w s
   unfolding isDone
   keeps-stocks =
       record {
-        others = λ other. either untouched λ e. let d = done-sets e in d .list ∙ quiet (w .books) s (d .table) (d .comes-done) other;
-        only-done = λ refused. either untouched λ e. absurd (refused (is-done (step w s .answer) e));
-        done = λ halt e. halts halt (ap isDone e);
-        good = λ right. either (λ e. ap listGood (untouched e) ∙ right)
-            λ e. let d = done-sets e in ap listGood (d .list) ∙ stays-good (w .books) s (d .table) (d .comes-done) right;
+        others = λ other. either w s untouched λ _ d. set-list d ∙ quiet (w .books) s (d .ready .table) (d .comes-done) other;
+        only-done = λ refused. either w s untouched λ e _. absurd (refused (is-done (step w s .answer) e));
+        done = λ halt e. halts halt (done-does w s (ap isDone e));
+        good = λ right. either w s (λ e. ap listGood (untouched e) ∙ right)
+            λ _ d. ap listGood (set-list d) ∙ stays-good (w .books) s (d .ready .table) (d .comes-done) right;
       }

@@ -12,3 +12,4 @@ pub mod Records
 pub mod Sent
 pub mod Steps
 pub mod Halted
+pub mod Canceled

@@ -1,8 +1,9 @@
 -- Which records a done entry leaves: the changed order in its own, the added one behind the used ones, and every other as it was. Seen are
--- the four things of an order by which chains are followed; they fit their widths, so storing wraps none of them. Assumes nothing.
-use Rattle.octets.proofs.Proving.{Bool, List, _+_, _<_, _∙_, _≡_, _≢_, _≤_, _⊎_, ap, arith, false, inl, inr, length, refl, sym, true, ℕ}
+-- what of an order chains are followed by, and its counts; they fit their widths, so storing wraps none of them. Assumes nothing.
+use Rattle.octets.proofs.Proving.{Bool, List, _+_, _-_, _<_, _∙_, _≡_, _≢_, _≤_, _⊎_, ap, arith, false, inl, inr, length, refl, subst, sym, true, ℕ, ℕ-discrete}
 use Rattle.answers.specs.Answer.{isDone}
 use Rattle.wire.specs.Letters.{rejectedToken}
+use Rattle.wire.specs.Shares.{total}
 use Rattle.header.specs.Limits.{headerSize}
 use Rattle.orders.specs.Limits.{mostShares}
 use Rattle.orders.specs.Counts.{gone, newCounts}
@@ -12,20 +13,36 @@ use Rattle.table.specs.Table.{HasRecord, header, orderAt, sound, storeOrder}
 use Rattle.table.proofs.Stored.{order-read-back, other-orders, header-read-back, orders-stay}
 use Rattle.tape.specs.Entries.{stampOf}
 use Rattle.host.specs.Step.{Books, oneIf, storeIf, headerAfter, committed, comesTo}
-use Rattle.laws.proofs.Types.{Plan, Order, Header}
-use Rattle.laws.proofs.Shapes.{change-of, addition-of}
-use Rattle.laws.proofs.Clipped.{clip-same, clipped, clippedCounts, stored-clipped, whole-clipped}
-use Rattle.laws.proofs.Sounds.{Fit, S, p, place, one, two, kept₂, after, whole, changed-fit, added-fit, there-in-one, K}
+use Rattle.laws.proofs.Types.{Decision, Plan, Order, Header}
+use Rattle.laws.proofs.Shapes.{Changed, Change, unchanged, changed, change-of, addition-of}
+use Rattle.laws.proofs.Standing.{standing-used}
+use Rattle.laws.proofs.Given.{from-is, live-there, none-unused}
+use Rattle.laws.proofs.Clipped.{clip-same, clipped, counts-stay, stored-clipped, whole-clipped}
+use Rattle.laws.proofs.Sounds.{Fit, S, P, p, o, place, one, two, kept₂, after, whole, changed-fit, added-fit, there-in-one, K}
 
--- what a chain is followed by
+-- what a chain is followed by, and what is counted
 pub record Face : Type 0 where
   pub state : ℕ
   pub token : List ℕ
+  pub liable : ℕ
   pub executed : ℕ
+  pub matched : ℕ
   pub previous : List ℕ
 
+-- what is open of it
+abbrev pub openIn : Face → ℕ
+openIn f = f .liable - (f .executed + f .matched)
+
 abbrev pub face : Order → Face
-face o = record { state = o .state; token = o .token; executed = o .shares .executed .0; previous = o .details .previous }
+face o =
+    record {
+      state = o .state;
+      token = o .token;
+      liable = o .shares .liable .0;
+      executed = o .shares .executed .0;
+      matched = o .shares .matched .0;
+      previous = o .details .previous;
+    }
 
 abbrev pub faceAt : List ℕ → ℕ → Face
 faceAt t i = face (orderAt t i)
@@ -33,19 +50,19 @@ faceAt t i = face (orderAt t i)
 -- ---- one order stored
 
 face-clipped : (o : Order) → OrderGood o → face (clipped o) ≡ face o
-unfolding clipped clippedCounts gone rejectedOrder newCounts
+unfolding clipped gone rejectedOrder newCounts
 face-clipped o good = by (good .standing)
   where
-    fits : o .state < 256 → o .shares .executed .0 ≤ mostShares → face (clipped o) ≡ face o
-    fits s e = rw (clip-same 1 (o .state) (omega arith), clip-same 4 (o .shares .executed .0) (omega arith))
+    fits : o .state < 256 → gone (o .shares) .0 ≤ o .shares .liable .0 → o .shares .liable .0 ≤ mostShares → face (clipped o) ≡ face o
+    fits s within most = rw (clip-same 1 (o .state) (omega arith), counts-stay (o .shares) (omega arith) (omega arith) most)
 
     by : Live o ⊎ (Dead o ⊎ (o ≡ rejectedOrder (o .token))) → face (clipped o) ≡ face o
-    by (inl l) = fits (omega (arith, l .0)) (omega (arith, l .1, l .2))
-    by (inr (inl d)) = fits (omega (arith, d .0)) (omega (arith, d .1, d .2))
+    by (inl l) = fits (omega (arith, l .0)) (omega (arith, l .1)) (l .2)
+    by (inr (inl d)) = fits (omega (arith, d .0)) (omega (arith, d .1)) (d .2)
     by (inr (inr r)) =
         let state : o .state ≡ rejectedToken = ap (λ (q : Order). q .state) r in
-        let executed : o .shares .executed .0 ≡ 0 = ap (λ (q : Order). q .shares .executed .0) r in
-        fits (omega (arith, state)) (omega (arith, executed))
+        let none : o .shares ≡ newCounts (total 0) = ap (λ (q : Order). q .shares) r in
+        fits (omega (arith, state)) (rw none (omega arith)) (rw none (omega arith))
 
 module _ (t : List ℕ) (i : ℕ) (o : Order) (there : HasRecord t i) (fit : Fit o) where
   pub stored-face : faceAt (storeOrder t i o) i ≡ face o
@@ -68,6 +85,9 @@ module _ (books : Books) (s : List ℕ) (ok : sound (books .table) ≡ true) (do
   abbrev plan : Plan
   plan = p books s ok done
 
+  abbrev named : Order
+  named = o books s ok done
+
   abbrev mid : List ℕ
   mid = one books s ok done
 
@@ -83,6 +103,9 @@ module _ (books : Books) (s : List ℕ) (ok : sound (books .table) ≡ true) (do
   -- the table afterwards
   abbrev pub left : List ℕ
   left = committed t at (stampOf s) plan
+
+  pub written : committed t at (stampOf s) (comesTo books s .plan) ≡ left
+  written = ap (λ (d : Decision). committed t at (stampOf s) (d .plan)) (P books s ok done .is)
 
   long : headerSize ≤ length end
   long = omega (arith, kept₂ books s ok done .long, S books s ok done .size .long)
@@ -131,3 +154,18 @@ module _ (books : Books) (s : List ℕ) (ok : sound (books .table) ≡ true) (do
       by : (b : Bool) → isUsed (plan .added) ≡ b → faceAt end i ≡ faceAt mid i
       by true u = rw u (other-faces mid used (plan .added) (there-in-one books s ok done u) (fit u) i (λ e. omega (arith, e)))
       by false u = rw u
+
+  -- so what a done entry keeps of the order that it changes, from its face before to its face after, it keeps of every record
+  pub each-record : (R : Face → Face → Type 0) → ((f : Face) → R f f) → (Changed named (plan .notice) (plan .changed) → R (face named) (face (plan .changed)))
+      → (i : ℕ) → i < used → R (faceAt t i) (faceAt left i)
+  each-record R same moved i l = subst (R (faceAt t i)) (sym (earlier-face i l)) (by (change-of (K books s ok done .1 .1 .shape)))
+    where
+      by : Change named (plan .notice) (plan .changed) → R (faceAt t i) (faceAt mid i)
+      by (unchanged e) = subst (R (faceAt t i)) (sym (unchanged-faces (ap isUsed e ∙ none-unused) i)) (same (faceAt t i))
+      by (changed c) = elim (ℕ-discrete i at) [
+        | yes e ↦
+            rw e
+            (subst (R (faceAt t at)) (sym (changed-face (standing-used _ (c .standing))))
+            (subst (λ (q : Order). R (face q) (face (plan .changed))) (from-is t at (live-there t at (c .alive))) (moved c)))
+        | no e ↦ subst (R (faceAt t i)) (sym (unchanged-face i e)) (same (faceAt t i))
+      ]

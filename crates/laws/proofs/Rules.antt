@@ -6,7 +6,7 @@ use Rattle.octets.specs.Choice.{pick, among}
 use Rattle.octets.proofs.Laws.{length-part}
 use Rattle.answers.specs.Answer.{isDone}
 use Rattle.wire.specs.Letters.{closed, firmNotListed, invalidStock, stockHalted, notInThisCross, invalidDisplay, invalidPrice, aboveThreshold, invalidMinimum, userRequested, crosses, noCross, startOfDay, endOfDay}
-use Rattle.wire.specs.Shares.{total, _equals_}
+use Rattle.wire.specs.Shares.{total, _equals_, _grownBy_}
 use Rattle.wire.specs.Limits.{tokenSize}
 use Rattle.stocks.specs.Standing.{isListed as isListedStock, isHalted}
 use Rattle.header.specs.Limits.{dayBefore, dayOpen, dayClosed, highestThreshold}
@@ -20,8 +20,9 @@ use Rattle.orders.proofs.Standing.{Live}
 use Rattle.rules.specs.Plan.{allowed}
 use Rattle.rules.specs.Enter.{badStock, badDisplay, badPrice, badShares, badMinimum, faultOfNumbers, enterFault, enteredKept, enteredOrder, enterOutcome, enterRule}
 use Rattle.rules.specs.Replace.{badDetails, replacementOrder, canceledWhole, replaceOpen, replaceRule}
-use Rattle.rules.specs.Cancel.{cancelIgnored, decrement, canceledOrder, lateCancel, cancelRule}
+use Rattle.rules.specs.Cancel.{newOpen, cancelIgnored, decrement, canceledOrder, lateCancel, cancelRule}
 use Rattle.rules.specs.Modify.{modifyIgnored, modifiedOrder, modifyRule}
+use Rattle.rules.proofs.Heard.{cancel-live, cancel-smaller}
 use Rattle.market.specs.Guards.{marketAnswer}
 use Rattle.market.specs.Taken.{sharesRight, executionRule, bookCancelRule, selfMatchRule}
 use Rattle.market.specs.Priority.{prioritisedOrder, priorityRule}
@@ -29,8 +30,9 @@ use Rattle.market.specs.Cross.{lateRule, crossDone, crossDoneRule}
 use Rattle.market.specs.Day.{systemRule}
 use Rattle.market.specs.Halt.{haltRule}
 use Rattle.market.proofs.Room.{passed, room}
+use Rattle.laws.specs.Cancels.{executionsPlusOpen}
 use Rattle.laws.proofs.Types.{Answer, Ignored, NotLive, WrongMoment, Order, Header, Decision, Fault, EnterOrder, ReplaceOrder, CancelOrder, ModifyOrder, Execution, BookCancel, SelfMatch, Priority, System, StockState, StockStanding, Canceled, Modified, Replaced, Executed, AiqCancelled}
-use Rattle.laws.proofs.Tests.{cancel-live, cancel-smaller, modify-live, modify-above, modify-within, fair-shares, good-shares, new-open}
+use Rattle.laws.proofs.Tests.{modify-live, modify-above, modify-within, fair-shares, good-shares, new-open}
 use Rattle.laws.proofs.Shapes.{Shaped, Born, ofRules, Orderly, Keeps, setting-orderly, refused-keeps, beginning-keeps, changing-keeps, renumbering-keeps, accepting-keeps, rejecting-keeps, replacing-keeps, uncounted, recounted, ended, ended-dead}
 
 -- All that the rules ask of an order: of live ones only, because no rule changes or counts with another
@@ -101,7 +103,7 @@ module _ (o found : Order) (t : List ℕ) (sane : Sane o) where
   Good = Keeps o found t
 
   pub cancel-keeps : (e : CancelOrder) → Good (cancelRule o e)
-  unfolding cancelRule lateCancel canceledOrder decrement cut withLiable gone marked withFlags withSide
+  unfolding cancelRule lateCancel canceledOrder openShares withLiable gone marked withFlags withSide executionsPlusOpen
   cancel-keeps e =
       guard Good (cancelIgnored o (e .size)) (λ _. refused-keeps Ignored refl) λ heard.
       let alive = cancel-live o (e .size) heard in
@@ -113,11 +115,11 @@ module _ (o found : Order) (t : List ℕ) (sane : Sane o) where
       guard Good (o is RejectSent) (λ _. refused-keeps Ignored refl) λ _.
       changing-keeps tt (uncounted o alive lives (sane .shaped) _ refl)) λ _.
       changing-keeps tt
-      (recounted o alive lives (sane .shaped) (o .side) (o .flags) (cut (o .shares) (decrement o (e .size))) (Canceled (decrement o (e .size)) userRequested)
-      (omega (arith, lives .1)) (omega (arith, lives .2)) (omega arith))
+      (recounted o alive lives (sane .shaped) (o .side) (o .flags) (withLiable (o .shares) (gone (o .shares) grownBy newOpen o (e .size)))
+      (Canceled (decrement o (e .size)) userRequested) (omega arith) (omega (arith, smaller, lives .2)) (omega arith) (omega (arith, smaller)))
 
   pub modify-keeps : (h : Header) (e : ModifyOrder) → Good (modifyRule h o e)
-  unfolding modifyRule modifiedOrder withLiable withFlags withSide gone
+  unfolding modifyRule modifiedOrder openShares withLiable withFlags withSide gone executionsPlusOpen
   modify-keeps h e =
       guard Good (modifyIgnored h o e) (λ _. refused-keeps Ignored refl) λ heard.
       let alive = modify-live h o e heard in
@@ -126,7 +128,7 @@ module _ (o found : Order) (t : List ℕ) (sane : Sane o) where
       let within = modify-within h o e heard in
       changing-keeps tt
       (recounted o alive lives (sane .shaped) (e .side) (o .flags) (withLiable (o .shares) (e .shares)) Modified (omega arith)
-      (omega (arith, lives .2)) (omega arith))
+      (omega (arith, lives .2)) (omega arith) (omega arith))
 
   -- ---- checked as the market's entries are
 
@@ -145,35 +147,35 @@ module _ (o found : Order) (t : List ℕ) (sane : Sane o) where
           guard Other (not (isLive o)) (λ _. refl) λ _. guard Other (not moment) (λ _. refl) λ _. guard Other (not shares) (λ _. refl) λ _. refl
 
   pub execution-keeps : (h : Header) (e : Execution) → Good (executionRule h o e)
-  unfolding executionRule executing withFlags withSide gone
+  unfolding executionRule executing openShares withFlags withSide gone executionsPlusOpen
   execution-keeps h e =
       market-keeps (isOpenDay h) (sharesRight o (e .shares)) λ alive lives fair.
       let fits = room o (e .shares) fair in
       changing-keeps tt
       (recounted o alive lives (sane .shaped) (o .side) (o .flags) (executing (o .shares) (e .shares)) (Executed e) (omega arith)
-      (omega (arith, lives .2)) (omega arith))
+      (omega (arith, lives .2)) (omega arith) (omega arith))
 
   pub book-cancel-keeps : (e : BookCancel) → Good (bookCancelRule o e)
-  unfolding bookCancelRule cut withLiable withFlags withSide gone
+  unfolding bookCancelRule cut openShares withLiable withFlags withSide gone executionsPlusOpen
   book-cancel-keeps e =
       market-keeps true (sharesRight o (e .shares)) λ alive lives fair.
       let fits = room o (e .shares) fair in
       changing-keeps tt
       (recounted o alive lives (sane .shaped) (o .side) (o .flags) (cut (o .shares) (e .shares)) (Canceled (e .shares) (e .reason)) (omega arith)
-      (omega (arith, lives .2)) (omega arith))
+      (omega (arith, lives .2)) (omega arith) (omega arith))
 
   pub self-match-keeps : (h : Header) (e : SelfMatch) → Good (selfMatchRule h o e)
-  unfolding selfMatchRule selfMatching withFlags withSide gone
+  unfolding selfMatchRule selfMatching openShares withFlags withSide gone executionsPlusOpen
   self-match-keeps h e =
       market-keeps (isOpenDay h) (sharesRight o (e .shares)) λ alive lives fair.
       let fits = room o (e .shares) fair in
       changing-keeps tt
       (recounted o alive lives (sane .shaped) (o .side) (o .flags) (selfMatching (o .shares) (e .shares)) (AiqCancelled e) (omega arith)
-      (omega (arith, lives .2)) (omega arith))
+      (omega (arith, lives .2)) (omega arith) (omega arith))
 
   -- a live order with other terms and another reference
   pub priority-keeps : (h : Header) (e : Priority) → Good (priorityRule h o e)
-  unfolding priorityRule prioritisedOrder withDetails
+  unfolding priorityRule prioritisedOrder withDetails executionsPlusOpen
   priority-keeps h e =
       market-keeps (isOpenDay h) true λ alive lives _.
       renumbering-keeps
@@ -184,6 +186,7 @@ module _ (o found : Order) (t : List ℕ) (sane : Sane o) where
         token = refl;
         previous = refl;
         executed = omega arith;
+        limit = omega arith;
       })
 
   pub late-keeps : (h : Header) → Good (lateRule h o)

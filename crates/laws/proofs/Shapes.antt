@@ -13,6 +13,7 @@ use Rattle.orders.specs.declared.counts.Counts.{Counts}
 use Rattle.orders.proofs.Standing.{Live}
 use Rattle.rules.specs.Plan.{noStock, refused, changing, renumbering, accepting, replacing as replacingBy, rejecting, beginning, setting}
 use Rattle.laws.specs.Blocked.{isBlocked}
+use Rattle.laws.specs.Cancels.{executionsPlusOpen}
 use Rattle.laws.proofs.Types.{Answer, Order, Plan, StockState, Decision, Begins, Nothing, Day, Notice, Silent, SystemEvent, Accepted, Replaced, Canceled, AiqCancelled, Executed, Rejected, CancelPending, CancelReject, PriorityUpdate, Modified}
 use Rattle.laws.proofs.Standing.{Standing, live-state, counted}
 
@@ -48,6 +49,8 @@ pub record Changed (named : Order) (notice : Notice) (after : Order) : Type 0 wh
   pub token : after .token ≡ named .token
   pub previous : after .details .previous ≡ named .details .previous
   pub executed : after .shares .executed .0 ≡ named .shares .executed .0 + toldExecuted notice
+  -- executions plus open never rise
+  pub limit : executionsPlusOpen after .0 ≤ executionsPlusOpen named .0
 
 -- a live order under the token t, which carries over these executed shares from the order of the token before it
 pub record Born (t : List ℕ) (executed : ℕ) (before : List ℕ) (new : Order) : Type 0 where
@@ -185,7 +188,7 @@ module _ {named found : Order} {token : List ℕ} {p : Plan} where
 module _ (o : Order) (alive : isLive o ≡ true) (lives : Live o) (shaped : Shaped o) where
   -- what leaves its counts alone
   pub uncounted : (flags : ℕ) {notice : Notice} → toldExecuted notice ≡ 0 → Changed o notice (withFlags o flags)
-  unfolding withFlags
+  unfolding withFlags executionsPlusOpen
   uncounted flags quiet =
       record {
         alive = alive;
@@ -194,13 +197,15 @@ module _ (o : Order) (alive : isLive o ≡ true) (lives : Live o) (shaped : Shap
         token = refl;
         previous = refl;
         executed = omega (arith, quiet);
+        limit = omega arith;
       }
 
   -- what moves them
   pub recounted : (side flags : ℕ) (s : Counts) (notice : Notice) → gone s .0 ≤ s .liable .0 → s .liable .0 ≤ mostShares
-      → s .executed .0 ≡ o .shares .executed .0 + toldExecuted notice → Changed o notice (deadIfSpent (withFlags (withSide o side) flags) s)
-  unfolding deadIfSpent withFlags withSide
-  recounted side flags s notice within most told =
+      → s .executed .0 ≡ o .shares .executed .0 + toldExecuted notice → s .executed .0 + openShares s .0 ≤ executionsPlusOpen o .0
+      → Changed o notice (deadIfSpent (withFlags (withSide o side) flags) s)
+  unfolding deadIfSpent withFlags withSide executionsPlusOpen
+  recounted side flags s notice within most told limit =
       record {
         alive = alive;
         standing = counted (withFlags (withSide o side) flags) s (live-state o alive) within most;
@@ -208,11 +213,13 @@ module _ (o : Order) (alive : isLive o ≡ true) (lives : Live o) (shaped : Shap
         token = refl;
         previous = refl;
         executed = told;
+        limit = limit;
       }
 
   pub ended : (flags : ℕ) (notice : Notice) → toldExecuted notice ≡ 0 → Changed o notice (killed (withFlags o flags))
-  unfolding killed cut withLiable openShares gone withFlags withSide
-  ended flags notice quiet = recounted (o .side) flags _ notice (omega (arith, lives .1)) (omega (arith, lives .2)) (omega (arith, quiet))
+  unfolding killed cut withLiable openShares gone withFlags withSide executionsPlusOpen
+  ended flags notice quiet =
+      recounted (o .side) flags _ notice (omega (arith, lives .1)) (omega (arith, lives .2)) (omega (arith, quiet)) (omega (arith, lives .1))
 
   pub ended-dead : (flags : ℕ) → killed (withFlags o flags) .state ≡ dead
   unfolding killed deadIfSpent cut withLiable openShares gone withFlags

@@ -1,5 +1,5 @@
 -- What becomes of a live order stands: it is live with something open, or dead with nothing. Assumes nothing.
-use Rattle.octets.proofs.Proving.{Bool, _∙_, _≡_, _≤_, _⊎_, ap, arith, eqb, eqb-false, eqb-true, false, inl, inr, refl, true}
+use Rattle.octets.proofs.Proving.{Bool, _∙_, _≡_, _≤_, _⊎_, ap, arith, eqb, eqb-false, eqb-true, false, inl, inr, not, refl, true}
 use Rattle.octets.specs.Choice.{pick}
 use Rattle.wire.specs.Letters.{live, dead}
 use Rattle.orders.specs.Limits.{mostShares}
@@ -24,6 +24,15 @@ counted o s alive within most = by-open (eqb (openShares s .0) 0) refl
     by-open : (t : Bool) → eqb (openShares s .0) 0 ≡ t → Standing (deadIfSpent o s)
     by-open true e = inr (ap (λ b. pick b dead (o .state)) e, omega (arith, eqb-true (openShares s .0) 0 e), most)
     by-open false e = inl (ap (λ b. pick b dead (o .state)) e ∙ alive, omega (arith, eqb-false (openShares s .0) 0 e), most)
+
+-- and it has its record still
+pub spent-used : (o : Order) (s : Counts) → o .state ≡ live → isUsed (deadIfSpent o s) ≡ true
+unfolding deadIfSpent isUsed
+spent-used o s alive = by (eqb (openShares s .0) 0)
+  where
+    by : (b : Bool) → not (eqb (pick b dead (o .state)) 0) ≡ true
+    by true = refl
+    by false = rw alive
 
 pub executed-most : (o : Order) → Standing o → o .shares .executed .0 ≤ mostShares
 unfolding gone

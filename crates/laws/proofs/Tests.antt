@@ -1,5 +1,5 @@
 -- What a client rule's tests tell where they let an entry pass. Assumes nothing.
-use Rattle.octets.proofs.Proving.{Bool, _+_, _<_, _||_, _≡_, _≤_, arith, eqb-false, false, ltb-false, ltb-true, not, not-false, or-left, or-right, true, ℕ}
+use Rattle.octets.proofs.Proving.{Bool, _<_, _||_, _≡_, _≤_, arith, eqb-false, false, ltb-false, ltb-true, not, not-false, or-left, or-right, true}
 use Rattle.wire.specs.Shares.{total, _isBelow_, _equals_}
 use Rattle.header.specs.Header.{isOpenDay}
 use Rattle.header.specs.Limits.{highestThreshold}
@@ -9,18 +9,8 @@ use Rattle.orders.specs.Order.{isLive, _is_}
 use Rattle.orders.specs.declared.flags.Flag.the-variants.{Late}
 use Rattle.rules.specs.Enter.{badShares}
 use Rattle.rules.specs.Replace.{badBesidePrice, badDetails}
-use Rattle.rules.specs.Cancel.{cancelIgnored}
 use Rattle.rules.specs.Modify.{sideAllowed, modifyIgnored}
 use Rattle.laws.proofs.Types.{Order, Header, Total, ModifyOrder, ReplaceOrder}
-
-module _ (o : Order) (size : Total) (heard : cancelIgnored o size ≡ false) where
-  pub cancel-live : isLive o ≡ true
-  unfolding cancelIgnored
-  cancel-live = not-false _ (or-left _ _ (or-left _ _ heard))
-
-  pub cancel-smaller : size .0 < o .shares .liable .0
-  unfolding cancelIgnored
-  cancel-smaller = ltb-true _ _ (not-false _ (or-right (not (isLive o)) _ (or-left _ _ heard)))
 
 module _ (h : Header) (o : Order) (e : ModifyOrder) (heard : modifyIgnored h o e ≡ false) where
   abbrev moment : Bool

@@ -4,3 +4,4 @@ pub mod Places
 pub mod Messages
 pub mod Records
 pub mod Halts
+pub mod Cancels

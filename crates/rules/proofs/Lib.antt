@@ -1,3 +1,4 @@
 pub mod Prices
 pub mod Allowed
+pub mod Heard
 pub mod Unique

@@ -1,6 +1,8 @@
-// X: an order is cut down to an intended size. The size is a total, the decrement that is told a removed number.
+// X: an order is cut down to an intended size. The size is a total that limits executions; the decrement that is told is a removed number.
 ghost use mathlib.Core.Path.{_≡_};
-ghost use Rattle.rules.specs.Cancel.{cancelIgnored, decrement, canceledOrder, lateCancel, cancelRule};
+ghost use Prim.Native.Nat.{_<_};
+ghost use Rattle.orders.specs.Counts.{openShares};
+ghost use Rattle.rules.specs.Cancel.{newOpen, cancelIgnored, decrement, canceledOrder, lateCancel, cancelRule};
 use crate::plan::Decision;
 use crate::plan::Notice;
 use crate::plan::changing;
@@ -18,27 +20,31 @@ use orders::order::marked;
 use wire::shares::Removed;
 use wire::shares::Total;
 
+// What this size leaves open. It limits executions, and shares lost to self match are none: so executed alone is taken off.
+fn new_open(o: Order, size: Total) -> Removed
+    ensures { λ r. ⌜ r ≡ newOpen o size ⌝ }
+{
+    let executed = o.shares.executed;
+    size.less(executed)
+}
+
 fn cancel_ignored(o: Order, size: Total) -> bool
     ensures { λ r. ⌜ r ≡ cancelIgnored o size ⌝ }
 {
-    let liable = o.shares.liable;
-    !is_live(o) | !size.is_below(liable) | is(o, Flag::Pending)
+    let present = open_shares(o.shares);
+    !is_live(o) | !present.exceeds(new_open(o, size)) | is(o, Flag::Pending)
 }
 
-// Never more than is open: nothing executed or self-matched is taken back.
 fn decrement(o: Order, size: Total) -> Removed
     ensures { λ r. ⌜ r ≡ decrement o size ⌝ }
 {
-    let liable = o.shares.liable;
-    let by = liable.less(size);
-    let open = open_shares(o.shares);
-    if by.exceeds(open) {
-        return open;
-    }
-    by
+    let present = open_shares(o.shares);
+    present.minus(new_open(o, size))
 }
 
+// Liable falls by the decrement. What is left of it is executed, self-matched and the new open, which need not be added up.
 fn canceled_order(o: Order, size: Total) -> Order
+    requires { ⌜ newOpen o size .0 < openShares (o .shares) .0 ⌝ }
     ensures { λ r. ⌜ r ≡ canceledOrder o size ⌝ }
 {
     dead_if_spent(o, cut(o.shares, decrement(o, size)))

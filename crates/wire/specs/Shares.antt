@@ -1,7 +1,7 @@
 -- Share numbers. A total counts from the start of the chain: liable, executed, self-matched, an intended size, the Shares of O, U and M.
 -- Removed shares are the step between two totals: a decrement, an execution, what is open. No definition below adds or compares across the
 -- two kinds but these.
-use Prim.Native.Nat.{ℕ, _+_, _-_, max}
+use Prim.Native.Nat.{ℕ, _+_, _-_}
 use mathlib.Core.Bool.{Bool}
 use lib.Dec.{ltb, eqb}
 pub use Rattle.wire.specs.declared.shares.Total.{Total}
@@ -27,9 +27,6 @@ infixl 60 _together_
 abbrev pub _together_ : Total → Total → Total
 a together b = total (a .0 + b .0)
 
-abbrev pub larger : Total → Total → Total
-larger a b = total (max (a .0) (b .0))
-
 infixl 60 _less_
 abbrev pub _less_ : Total → Total → Removed
 a less b = removed (a .0 - b .0)
@@ -49,3 +46,8 @@ a cutBy d = total (a .0 - d .0)
 infix 50 _exceeds_
 abbrev pub _exceeds_ : Removed → Removed → Bool
 a exceeds b = ltb (b .0) (a .0)
+
+-- what goes from the one down to the other; nothing where that is not below
+infixl 60 _minus_
+abbrev pub _minus_ : Removed → Removed → Removed
+a minus b = removed (a .0 - b .0)

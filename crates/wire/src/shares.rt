@@ -2,7 +2,7 @@
 // meet here and, where an order's executed and self-matched shares are added over 64 bits, in `orders::counts`, and nowhere else.
 ghost use mathlib.Core.Path.{_≡_};
 ghost use Prim.Native.Nat.{_+_, _<_, _^_};
-ghost use Rattle.wire.specs.Shares.{_isBelow_, _equals_, _less_, _grownBy_, _cutBy_, _exceeds_};
+ghost use Rattle.wire.specs.Shares.{_isBelow_, _equals_, _less_, _grownBy_, _cutBy_, _exceeds_, _minus_};
 
 // Liable, executed, self-matched, an intended size, the Shares of O, U and M, a threshold.
 pub struct Total(pub u32);
@@ -56,5 +56,14 @@ impl Removed {
         ensures { λ r. ⌜ r ≡ self exceeds other ⌝ }
     {
         other.0 < self.0
+    }
+    // What goes from these down to the others; nothing where those are not below.
+    pub fn minus(self, other: Removed) -> Removed
+        ensures { λ r. ⌜ r ≡ self minus other ⌝ }
+    {
+        if other.0 < self.0 {
+            return Removed(self.0 - other.0);
+        }
+        Removed(0)
     }
 }

@@ -2,7 +2,7 @@
 use mathlib.Core.Path.{_≡_, refl}
 use mathlib.Core.Bool.{true}
 use Rattle.worked.specs.Case.{allHold}
-use Rattle.worked.specs.Edges.{enterEdges, replaceEdges, cancelEdges, modifyEdges, takenEdges, crossEdges, answerEdges}
+use Rattle.worked.specs.Edges.{enterEdges, replaceEdges, cancelEdges, sizeEdges, modifyEdges, takenEdges, crossEdges, answerEdges}
 use Rattle.worked.proofs.Below.{below}
 use Rattle.worked.proofs.Opened.{opened}
 
@@ -17,6 +17,10 @@ replace-edges-hold = refl
 pub cancel-edges-hold : allHold cancelEdges ≡ true
 unfolding below opened
 cancel-edges-hold = refl
+
+pub size-edges-hold : allHold sizeEdges ≡ true
+unfolding below opened
+size-edges-hold = refl
 
 pub modify-edges-hold : allHold modifyEdges ≡ true
 unfolding below opened

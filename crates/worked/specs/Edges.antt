@@ -3,7 +3,7 @@
 use mathlib.Core.List.{List, [], _∷_, _++_}
 use Rattle.octets.specs.Choice.{text}
 use Rattle.octets.specs.Bytes.{put}
-use Rattle.worked.specs.Entries.{stamp, start, finish, enter, good, replaceAs, replace, cancel, modify, execute, selfMatch, bookCancel, prioritise, late, crossDone, stampedAt, _onSide_, _inStock_, _forFirm_, _displayed_, _inCapacity_, _swept_, _atLeast_, _then_, begun, entered, enteredLate, closing, full, sold}
+use Rattle.worked.specs.Entries.{stamp, start, finish, enter, good, replaceAs, replace, cancel, modify, execute, selfMatch, bookCancel, prioritise, late, crossDone, stampedAt, _onSide_, _inStock_, _forFirm_, _displayed_, _inCapacity_, _swept_, _atLeast_, _then_, begun, entered, selfMatched, enteredLate, selfMatchedLate, closing, full, sold}
 use Rattle.worked.specs.Messages.{nothing, isSystemEvent, isAccepted, isAcceptedGood, isReplacedAs, isReplaced, isCanceledFor, isCanceled, isModified, isRejected, isExecuted, isAiqCancelled, isCancelPending, isCancelReject, isPriorityUpdate}
 use Rattle.worked.specs.Case.{Case, after_offer_answers_sends_leaves_, crowded, liveOrder, deadOrder, free, usedUp, intact, timeStored}
 
@@ -77,13 +77,45 @@ cancelEdges =
     ∷ after enteredLate offer cancel "A" 300 answers 0 sends isCancelReject "A" leaves (liveOrder "A" 500 100 0 400 ∷ [])
     ∷ after (enteredLate then cancel "A" 300) offer cancel "A" 300 answers 1 sends nothing leaves []
     ∷ after (enteredLate then cancel "A" 300) offer cancel "A" 0 answers 0 sends isCancelPending "A" leaves []
-    -- intended size not below liable, late too: ignored
+    -- new open not below the present open, late too: ignored
     ∷ after enteredLate offer cancel "A" 500 answers 1 sends nothing leaves []
     -- no longer late: Canceled; late again: the Cancel Reject was sent before
     ∷ after (enteredLate then cancel "A" 300 then crossDone "A") offer cancel "A" 300 answers 0 sends isCanceled "A" 200 leaves []
     ∷ after (enteredLate then cancel "A" 300 then crossDone "A" then late "A") offer cancel "A" 300 answers 1 sends nothing leaves []
     -- the day doesn't matter
     ∷ after closing offer cancel "A" 0 answers 0 sends isCanceled "A" 400 leaves (deadOrder "A" 100 100 0 0 ∷ [])
+    ∷ []
+
+-- (Ask 4) 500 entered, 100 executed, 50 self-matched, 350 open
+unfoldable pub sizeEdges : List Case
+sizeEdges =
+    -- size not above executed: new open 0, dead
+    after selfMatched offer cancel "A" 0 answers 0 sends isCanceled "A" 350 leaves (deadOrder "A" 150 100 50 0 ∷ [])
+    ∷ after selfMatched offer cancel "A" 99 answers 0 sends isCanceled "A" 350 leaves (deadOrder "A" 150 100 50 0 ∷ [])
+    ∷ after selfMatched offer cancel "A" 100 answers 0 sends isCanceled "A" 350 leaves (deadOrder "A" 150 100 50 0 ∷ [])
+    -- executed + 1; executed + self-matched: shares lost to self match aren't executions
+    ∷ after selfMatched offer cancel "A" 101 answers 0 sends isCanceled "A" 349 leaves (liveOrder "A" 151 100 50 1 ∷ [])
+    ∷ after selfMatched offer cancel "A" 150 answers 0 sends isCanceled "A" 300 leaves (liveOrder "A" 200 100 50 50 ∷ [])
+    -- executed + open − 1; executed + open, executed + self-matched + open − 1 and executed + self-matched + open: ignored
+    ∷ after selfMatched offer cancel "A" 449 answers 0 sends isCanceled "A" 1 leaves (liveOrder "A" 499 100 50 349 ∷ [])
+    ∷ after selfMatched offer cancel "A" 450 answers 1 sends nothing leaves (intact "A" ∷ [])
+    ∷ after selfMatched offer cancel "A" 499 answers 1 sends nothing leaves (intact "A" ∷ [])
+    ∷ after selfMatched offer cancel "A" 500 answers 1 sends nothing leaves (intact "A" ∷ [])
+    -- this test stays before lateness: ignored, and one below it a Cancel Reject; size 0 is pending, and size at executed is not size 0
+    ∷ after selfMatchedLate offer cancel "A" 450 answers 1 sends nothing leaves (intact "A" ∷ [])
+    ∷ after selfMatchedLate offer cancel "A" 449 answers 0 sends isCancelReject "A" leaves (liveOrder "A" 500 100 50 350 ∷ [])
+    ∷ after selfMatchedLate offer cancel "A" 100 answers 0 sends isCancelReject "A" leaves (liveOrder "A" 500 100 50 350 ∷ [])
+    ∷ after selfMatchedLate offer cancel "A" 0 answers 0 sends isCancelPending "A" leaves (liveOrder "A" 500 100 50 350 ∷ [])
+    -- the intended size limits total executions: after Cancel 300 another 200, and no more
+    ∷ after (selfMatched then cancel "A" 300) offer execute "A" 200 answers 0 sends isExecuted "A" 200 leaves (deadOrder "A" 350 300 50 0 ∷ [])
+    ∷ after (selfMatched then cancel "A" 300) offer execute "A" 201 answers 6 sends nothing leaves []
+    ∷ after (selfMatched then cancel "A" 300) offer cancel "A" 300 answers 1 sends nothing leaves []
+    -- Replace and Modify still count self-matched shares
+    ∷ after selfMatched offer replace "A" "B" 300 answers 0 sends isReplaced "A" "B" 150 leaves
+    (deadOrder "A" 150 100 50 0 ∷ liveOrder "B" 300 100 50 150 ∷ [])
+    ∷ after selfMatched offer replace "A" "B" 150 answers 0 sends isCanceled "A" 350 leaves (free "B" ∷ [])
+    ∷ after selfMatched offer modify "A" "B" 300 answers 0 sends isModified "A" "B" 150 leaves (liveOrder "A" 300 100 50 150 ∷ [])
+    ∷ after selfMatched offer modify "A" "B" 150 answers 1 sends nothing leaves []
     ∷ []
 
 unfoldable pub modifyEdges : List Case

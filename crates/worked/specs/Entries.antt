@@ -128,6 +128,10 @@ selfMatched = entered then selfMatch "A" 50
 unfoldable pub enteredLate : List (List ℕ)
 enteredLate = begun then enter "A" 500 10_000 99_999 "C" then execute "A" 100 then late "A"
 
+-- and 50 self-matched
+unfoldable pub selfMatchedLate : List (List ℕ)
+selfMatchedLate = enteredLate then selfMatch "A" 50
+
 -- ABC is halted
 unfoldable pub haltedThen : List (List ℕ) → List (List ℕ)
 haltedThen es = es then halt "ABC     " "H"

@@ -36,9 +36,9 @@ starred =
     -- 6: Self match 50, then Replace 500: Replaced 350
     ∷ after selfMatched offer replace "A" "B" 500 answers 0 sends isReplaced "A" "B" 350 leaves
     (deadOrder "A" 150 100 50 0 ∷ liveOrder "B" 500 100 50 350 ∷ [])
-    -- 7: Self match 50, then Cancel 300: decrement 200, open 150
-    ∷ after selfMatched offer cancel "A" 300 answers 0 sends isCanceled "A" 200 leaves
-    (liveOrder "A" 300 100 50 150 ∷ [])
+    -- 7: Self match 50, then Cancel 300: decrement 150, open 200 (Ask 4)
+    ∷ after selfMatched offer cancel "A" 300 answers 0 sends isCanceled "A" 150 leaves
+    (liveOrder "A" 350 100 50 200 ∷ [])
     -- 8: Modify 300: Modified 200
     ∷ after entered offer modify "A" "B" 300 answers 0 sends isModified "A" "B" 200 leaves
     (liveOrder "A" 300 100 0 200 ∷ [])

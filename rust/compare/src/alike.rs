@@ -2,6 +2,8 @@
 
 use std::collections::BTreeSet;
 
+use crate::records::used_records;
+
 /// A token's length, and how many of its characters a busy client's tokens share.
 const TOKEN_LEN: usize = 14;
 const SHARED: usize = 9;
@@ -55,10 +57,5 @@ fn tokens_of(entry: &[u8]) -> impl Iterator<Item = &[u8; TOKEN_LEN]> {
 }
 
 fn used_tokens(table: &[u8]) -> impl Iterator<Item = &[u8; TOKEN_LEN]> {
-    let count = table.get(4..8).unwrap_or_default().iter();
-    let used = count.fold(0, |used, &byte| used << 8 | usize::from(byte));
-    let records = table.get(64..).unwrap_or_default().chunks_exact(80);
-    records
-        .take(used)
-        .filter_map(|record| record[1..].first_chunk())
+    used_records(table).filter_map(|record| record[1..].first_chunk())
 }

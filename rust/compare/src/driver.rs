@@ -8,21 +8,21 @@ use pilaqsevi::Marks;
 use second::tapes::{Chance, Tapes, damage, good_list, message, settings, sound_table, worn_out};
 
 use crate::alike::Alike;
+use crate::cancels::Cancel;
 use crate::command::{Command, Echo, Settings};
 use crate::desk::Desk;
 use crate::difference::Difference;
 use crate::host::Second;
+use crate::records::{HEADER_LEN, RECORD_LEN};
 use crate::sinks::Sink;
 use crate::tally::Tally;
 
 /// The answers that the driver itself acts on.
 const DONE: u8 = 0;
+const IGNORED: u8 = 1;
 const BLOCKED: u8 = 9;
 /// Those that are given before a token is looked for.
 const NOT_LOOKED_FOR: [u8; 6] = [10, 11, 14, 2, 3, 4];
-/// A table's bytes without its records, and a record's.
-const HEADER_LEN: usize = 64;
-const RECORD_LEN: usize = 80;
 /// The most records of a table.
 const MOST_RECORDS: usize = 800;
 /// The longest ring, and the longest entry and message that are tried: longer than any kind has.
@@ -375,9 +375,10 @@ impl<S: Sink> Driver<S> {
     fn give(&mut self, command: &Command) -> Told<u8> {
         self.expected.clear();
         let held = self.desk.marks.held;
-        let alike = match command {
-            Command::Step(entry) => Alike::of(entry, &self.desk.table),
-            _ => Alike::default(),
+        let table = &self.desk.table;
+        let (alike, cancel) = match command {
+            Command::Step(entry) => (Alike::of(entry, table), Cancel::of(entry, table)),
+            _ => (Alike::default(), None),
         };
         self.desk.obey(&Second, command, &mut self.expected);
         self.tally.count(command, &self.expected);
@@ -388,6 +389,10 @@ impl<S: Sink> Driver<S> {
         }
         if !NOT_LOOKED_FOR.contains(&answer) {
             self.tally.count_alike(&alike);
+        }
+        // A blocked one comes again.
+        if let (Some(cancel), DONE | IGNORED) = (cancel, answer) {
+            self.tally.count_cancel(&cancel);
         }
         Ok(answer)
     }

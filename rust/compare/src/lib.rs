@@ -7,11 +7,13 @@
 #![forbid(unsafe_code)]
 
 mod alike;
+mod cancels;
 mod command;
 mod desk;
 mod difference;
 mod driver;
 mod host;
+pub mod records;
 mod sinks;
 mod tally;
 

@@ -1,10 +1,12 @@
 //! A tally of a script: how many calls of each kind, how often each answer was right, at how many
-//! places a byte was bad, what was done, and how often tokens were nearly alike.
+//! places a byte was bad, what was done, how often tokens were nearly alike, and to what sizes orders
+//! with self-matched shares were cancelled.
 
 use std::collections::{BTreeMap, BTreeSet};
 use std::fmt::{self, Display, Formatter};
 
 use crate::alike::Alike;
+use crate::cancels::{Cancel, Sizes};
 use crate::command::Command;
 
 /// The answers that a call can give, and the one that has a place.
@@ -34,6 +36,9 @@ pub struct Tally {
     pub alike_but_for_one: u64,
     /// Where that one stood.
     pub apart_at: BTreeSet<usize>,
+    /// The Cancels of orders that have self-matched shares, and those of late ones among them.
+    pub cancels: Sizes,
+    pub late_cancels: Sizes,
     /// What the calls left in all, every byte of which was compared.
     pub bytes: u64,
 }
@@ -81,6 +86,14 @@ impl Tally {
         self.apart_at.extend(&alike.apart_at);
     }
 
+    /// Counts a Cancel of an order that has self-matched shares.
+    pub fn count_cancel(&mut self, cancel: &Cancel) {
+        self.cancels.count(cancel);
+        if cancel.late {
+            self.late_cancels.count(cancel);
+        }
+    }
+
     /// How many entries were offered, blocked ones counted each time.
     pub fn entries(&self) -> u64 {
         self.steps.iter().sum()
@@ -126,6 +139,11 @@ impl Display for Tally {
             self.alike_at_the_end,
             self.alike_but_for_one,
             self.apart_at.len()
+        )?;
+        write!(
+            f,
+            "cancels after self matches ({}), late ones ({}), ",
+            self.cancels, self.late_cancels
         )?;
         write!(f, "{} bytes compared", self.bytes)
     }

@@ -5,6 +5,7 @@
 
 use std::cell::Cell;
 
+use compare::records::{HEADER_LEN, RECORD_LEN, number, row};
 use compare::{Beside, Difference, Driver, Host, Proved, Second, Told};
 use pilaqsevi::Marks;
 use second::tapes::judged::{Field, Judged, of_entry, of_message};
@@ -14,8 +15,6 @@ const ENTRIES: u64 = 20_000;
 const SEED: u64 = 3;
 
 /// Where things stand in tables and entries, as the paper counts.
-const FIRST_RECORD: usize = 64;
-const RECORD_LEN: usize = 80;
 const FLAGS_AT: usize = 64;
 const ENTRY_SHARES: std::ops::Range<usize> = 37..41;
 
@@ -121,7 +120,7 @@ impl Broken {
     /// What a fault does after a done step.
     fn after_done(&self, table: &mut [u8], ring: &mut [u8], marks: Marks, entry: &[u8]) {
         let used = number(&table[4..8]) as usize;
-        let next = FIRST_RECORD + RECORD_LEN * used;
+        let next = HEADER_LEN + RECORD_LEN * used;
         match self.fault {
             Some(Fault::UsesUpTheReplacementToken) if entry[0] == b'U' => {
                 let replaced = row(table, &entry[23..37]).is_some();
@@ -254,10 +253,10 @@ impl Host for Broken {
             [eight @ .., _] if self.has(Fault::TakesNineFirms) && firms.len() == 9 => eight,
             _ => firms,
         };
-        let kept = table.get(FIRST_RECORD..).map(<[u8]>::to_vec);
+        let kept = table.get(HEADER_LEN..).map(<[u8]>::to_vec);
         let answer = Second.fresh(table, threshold, firms);
         if let (true, Some(kept)) = (self.has(Fault::LeavesUnusedRecords), kept) {
-            table[FIRST_RECORD..].copy_from_slice(&kept);
+            table[HEADER_LEN..].copy_from_slice(&kept);
         }
         answer
     }
@@ -320,22 +319,6 @@ impl Host for Broken {
         let letter = message.first().copied().unwrap_or(0);
         self.misplace(told, message, of_message(inbound, letter))
     }
-}
-
-/// Where the first used record of this token begins; the table may be damaged.
-fn row(table: &[u8], token: &[u8]) -> Option<usize> {
-    let used = number(table.get(4..8)?) as usize;
-    let records = table.get(FIRST_RECORD..)?.chunks_exact(RECORD_LEN);
-    let place = records
-        .take(used)
-        .position(|record| record[1..15] == *token)?;
-    Some(FIRST_RECORD + RECORD_LEN * place)
-}
-
-fn number(bytes: &[u8]) -> u32 {
-    bytes
-        .iter()
-        .fold(0, |number, &byte| number << 8 | u32::from(byte))
 }
 
 /// The difference that a host shows, if any.

@@ -2,12 +2,10 @@
 //!
 //! A broken host is the second host, whose right outcome is spoilt as one fault would.
 
-use compare::{Beside, Desk, Difference, Driver, Host, Second, Told};
-use pilaqsevi::Marks;
+mod common;
 
-/// The entries within which each fault must show.
-const ENTRIES: u64 = 20_000;
-const SEED: u64 = 3;
+use compare::{Desk, Difference, Second, Told};
+use pilaqsevi::Marks;
 
 /// Where things stand in entries and records, as the paper counts.
 const TOKEN: std::ops::Range<usize> = 9..23;
@@ -99,9 +97,6 @@ const FAULTS: [Fault; 37] = [
     Fault::FreesWhenFull,
     Fault::FreesAtTheClose,
 ];
-
-/// The second host with this fault, or with none.
-struct Broken(Option<Fault>);
 
 /// A step as it should be: the desk before and after it, and what was told.
 struct Step<'a> {
@@ -374,62 +369,29 @@ fn touch_the_list(fault: Fault, step: &mut Step) {
     }
 }
 
-impl Host for Broken {
-    fn fresh(&self, table: &mut [u8], threshold: u32, firms: &[[u8; 4]]) -> u8 {
-        Second.fresh(table, threshold, firms)
-    }
-
-    fn step(
-        &self,
-        table: &mut [u8],
-        ring: &mut [u8],
-        marks: &mut Marks,
-        stocks: &mut [u8],
-        entry: &[u8],
-    ) -> Told {
-        let before = Desk {
-            table: table.to_vec(),
-            ring: ring.to_vec(),
-            stocks: stocks.to_vec(),
-            marks: *marks,
-        };
-        let mut after = before.clone();
-        let told = after.step(&Second, entry);
-        let mut step = Step {
-            before,
-            after,
-            told,
-            entry,
-        };
-        judge_the_list(self.0, &mut step);
-        if let Some(fault) = self.0 {
-            for spoil in [enter, replace, halt, refused_halt, touch_the_list] {
-                spoil(fault, &mut step);
-            }
+/// The second host's step with this fault, or with none.
+fn step(fault: Option<Fault>, desk: &mut Desk, entry: &[u8]) -> Told {
+    let before = desk.clone();
+    let told = desk.step(&Second, entry);
+    let mut step = Step {
+        before,
+        after: desk.clone(),
+        told,
+        entry,
+    };
+    judge_the_list(fault, &mut step);
+    if let Some(fault) = fault {
+        for spoil in [enter, replace, halt, refused_halt, touch_the_list] {
+            spoil(fault, &mut step);
         }
-        table.copy_from_slice(&step.after.table);
-        ring.copy_from_slice(&step.after.ring);
-        stocks.copy_from_slice(&step.after.stocks);
-        *marks = step.after.marks;
-        step.told
     }
-
-    fn read<'a>(&self, ring: &'a [u8], marks: Marks) -> &'a [u8] {
-        Second.read(ring, marks)
-    }
-
-    fn release(&self, ring_len: usize, marks: &mut Marks, k: usize) -> u8 {
-        Second.release(ring_len, marks, k)
-    }
-
-    fn echo(&self, inbound: bool, message: &[u8], out: &mut [u8]) -> Told {
-        Second.echo(inbound, message, out)
-    }
+    *desk = step.after;
+    step.told
 }
 
 /// The difference that a host shows, if any.
 fn difference(fault: Option<Fault>) -> Option<Box<Difference>> {
-    Driver::drive(SEED, ENTRIES, Beside::new(Broken(fault))).err()
+    common::difference(|desk, entry| step(fault, desk, entry))
 }
 
 #[test]

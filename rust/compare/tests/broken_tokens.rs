@@ -3,12 +3,10 @@
 //! A broken host is the second host, to which the records are shown in such a way that it finds
 //! what the fault would find.
 
-use compare::{Beside, Difference, Driver, Host, Second, Told};
-use pilaqsevi::Marks;
+mod common;
 
-/// The entries within which each fault must show.
-const ENTRIES: u64 = 20_000;
-const SEED: u64 = 3;
+use compare::records::number;
+use compare::{Desk, Difference, Second, Told};
 
 /// The answers that are given before a token is looked for.
 const NOT_LOOKED_FOR: [u8; 6] = [10, 11, 14, 2, 3, 4];
@@ -63,26 +61,21 @@ fn finds(fault: Option<Fault>, wanted: &Token, stored: &[Token]) -> Option<usize
     }
 }
 
-/// The second host with this fault, or with none.
-struct Broken(Option<Fault>);
-
-impl Broken {
-    /// What the used records are shown as: each wanted token stands where the fault finds it, and
-    /// nowhere else.
-    fn shown(&self, wanted: &[Token], stored: &[Token]) -> Vec<Token> {
-        let mut shown = stored.to_vec();
-        for (place, token) in shown.iter_mut().enumerate() {
-            if wanted.contains(token) {
-                *token = hidden(place);
-            }
+/// What the used records are shown as: each wanted token stands where the fault finds it, and
+/// nowhere else.
+fn shown(fault: Option<Fault>, wanted: &[Token], stored: &[Token]) -> Vec<Token> {
+    let mut shown = stored.to_vec();
+    for (place, token) in shown.iter_mut().enumerate() {
+        if wanted.contains(token) {
+            *token = hidden(place);
         }
-        for token in wanted {
-            if let Some(place) = finds(self.0, token, stored) {
-                shown[place] = *token;
-            }
-        }
-        shown
     }
+    for token in wanted {
+        if let Some(place) = finds(fault, token, stored) {
+            shown[place] = *token;
+        }
+    }
+    shown
 }
 
 /// A token of which no tape has heard.
@@ -109,55 +102,29 @@ fn tokens(table: &mut [u8], used: usize) -> impl Iterator<Item = &mut [u8]> {
     records.map(|record| &mut record[1..15])
 }
 
-impl Host for Broken {
-    fn fresh(&self, table: &mut [u8], threshold: u32, firms: &[[u8; 4]]) -> u8 {
-        Second.fresh(table, threshold, firms)
+/// The second host's step with this fault, or with none.
+fn step(fault: Option<Fault>, desk: &mut Desk, entry: &[u8]) -> Told {
+    let told = desk.clone().step(&Second, entry);
+    if NOT_LOOKED_FOR.contains(&told.answer) {
+        return told;
     }
-
-    fn step(
-        &self,
-        table: &mut [u8],
-        ring: &mut [u8],
-        marks: &mut Marks,
-        stocks: &mut [u8],
-        entry: &[u8],
-    ) -> Told {
-        let mut aside = (table.to_vec(), ring.to_vec(), *marks, stocks.to_vec());
-        let (t, r, m, s) = (&mut aside.0, &mut aside.1, &mut aside.2, &mut aside.3);
-        let told = Second.step(t, r, m, s, entry);
-        if NOT_LOOKED_FOR.contains(&told.answer) {
-            return told;
-        }
-        let used = u32::from_be_bytes(table[4..8].try_into().unwrap()) as usize;
-        let kept = tokens(table, used).map(|token| (&*token).try_into().unwrap());
-        let kept: Vec<Token> = kept.collect();
-        let shown = self.shown(&wanted(entry), &kept);
-        for (place, token) in tokens(table, used).zip(&shown) {
-            place.copy_from_slice(token);
-        }
-        let told = Second.step(table, ring, marks, stocks, entry);
-        for (place, token) in tokens(table, used).zip(&kept) {
-            place.copy_from_slice(token);
-        }
-        told
+    let used = number(&desk.table[4..8]) as usize;
+    let kept = tokens(&mut desk.table, used).map(|token| (&*token).try_into().unwrap());
+    let kept: Vec<Token> = kept.collect();
+    let shown = shown(fault, &wanted(entry), &kept);
+    for (place, token) in tokens(&mut desk.table, used).zip(&shown) {
+        place.copy_from_slice(token);
     }
-
-    fn read<'a>(&self, ring: &'a [u8], marks: Marks) -> &'a [u8] {
-        Second.read(ring, marks)
+    let told = desk.step(&Second, entry);
+    for (place, token) in tokens(&mut desk.table, used).zip(&kept) {
+        place.copy_from_slice(token);
     }
-
-    fn release(&self, ring_len: usize, marks: &mut Marks, k: usize) -> u8 {
-        Second.release(ring_len, marks, k)
-    }
-
-    fn echo(&self, inbound: bool, message: &[u8], out: &mut [u8]) -> Told {
-        Second.echo(inbound, message, out)
-    }
+    told
 }
 
 /// The difference that a host shows, if any.
 fn difference(fault: Option<Fault>) -> Option<Box<Difference>> {
-    Driver::drive(SEED, ENTRIES, Beside::new(Broken(fault))).err()
+    common::difference(|desk, entry| step(fault, desk, entry))
 }
 
 #[test]

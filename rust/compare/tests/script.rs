@@ -282,6 +282,24 @@ fn a_script_often_names_tokens_that_are_nearly_alike() {
     assert!(tally.apart_at.iter().copied().eq(0..14), "{tally}");
 }
 
+/// Orders with self-matched shares are cancelled to every size at which the rule turns, or would
+/// turn if those shares counted, late ones among them.
+#[test]
+fn a_script_often_cancels_orders_with_self_matched_shares() {
+    let tally = Driver::drive(4, 100_000, Unheard).unwrap();
+    assert!(tally.cancels.0.iter().all(|&count| count > 100), "{tally}");
+    assert!(
+        tally.late_cancels.0.iter().all(|&count| count > 20),
+        "{tally}"
+    );
+    let told = tally.to_string();
+    let cancels = format!(
+        "cancels after self matches (in all: {},",
+        tally.cancels.0[0]
+    );
+    assert!(told.contains(&cancels), "{told}");
+}
+
 /// Lengths above the paper's are tried too.
 #[test]
 fn a_script_goes_beyond_the_longest_table_ring_and_list() {

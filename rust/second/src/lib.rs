@@ -1,5 +1,6 @@
-//! The second host: an order host for OUCH 4.2 written from the rule paper (document 01) alone, so
-//! that the proved host can be compared with it byte for byte.
+//! The second host: an order host for OUCH 4.2 written from the rule paper (document 01) and the
+//! requests that change it (document 02) alone, so that the proved host can be compared with it byte
+//! for byte.
 //!
 //! Nothing here is shared with the proved host, neither code nor constants. The host keeps its own
 //! structures and turns them into the paper's bytes only at its doors:

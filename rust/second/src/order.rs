@@ -40,7 +40,8 @@ fields! {
 }
 
 impl Order {
-    /// Executed + self-matched: the shares that no cancel can take back.
+    /// Executed + self-matched: the shares that no cancel can take back. Replace and Modify count
+    /// from here, Cancel from executed alone.
     pub fn spent(&self) -> Total {
         self.executed.and(self.self_matched)
     }

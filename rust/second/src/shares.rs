@@ -32,14 +32,14 @@ impl Total {
         Total(self.0 - removed.0)
     }
 
-    /// What must be removed for this total to fall to that one.
-    pub fn down_to(self, lower: Total) -> Removed {
-        Removed(self.0 - lower.0)
-    }
-
     /// What this liable total leaves exposed above the shares already spent.
     pub fn open_above(self, spent: Total) -> Open {
         Open(self.0 - spent.0)
+    }
+
+    /// What this intended size leaves exposed: nothing where it isn't above the shares executed.
+    pub fn left_to_execute(self, executed: Total) -> Open {
+        Open(self.0.saturating_sub(executed.0))
     }
 }
 
@@ -47,5 +47,10 @@ impl Open {
     /// The removal that leaves nothing open.
     pub fn all(self) -> Removed {
         Removed(self.0)
+    }
+
+    /// The removal that leaves so much open, which must not be more.
+    pub fn down_to(self, lower: Open) -> Removed {
+        Removed(self.0 - lower.0)
     }
 }

@@ -99,6 +99,12 @@ impl Tapes {
             (false, 0..=3) => 60,
             _ => 20,
         };
+        // What self-matched shares count for shows in Cancels, and orders that have some are few.
+        let cancels = if look.live_and_self_matched().is_empty() {
+            16
+        } else {
+            40
+        };
         // A Replace seldom finds its order's stock halted, so there are more where it would.
         let replaces = if look.live_and_halted().is_empty() {
             24
@@ -108,11 +114,11 @@ impl Tapes {
         let kinds = [
             (enters, from_client::enter as Maker),
             (replaces, from_client::replace),
-            (16, from_client::cancel),
+            (cancels, from_client::cancel),
             (10, from_client::modify),
             (12, from_book::execution),
             (7, from_book::book_cancel),
-            (7, from_book::self_match),
+            (10, from_book::self_match),
             (4, from_book::priority),
             (7, from_book::late_begins),
             (6, from_book::cross_done),

@@ -1,4 +1,4 @@
-//! X: Cancel Order lowers the chain's total to the intended size, or waits for the cross.
+//! X: Cancel Order limits the executions of the chain to the intended size, or waits for the cross.
 
 use super::{Deed, USER_REQUESTED};
 use crate::answer::Answer;
@@ -10,16 +10,17 @@ use crate::shares::Total;
 
 pub fn cancel(host: &Host, stamp: Stamp, x: &Cancel) -> Result<Deed, Answer> {
     let (place, order) = host.live(x.token).ok_or(Answer::Ignored)?;
-    // An intended size that isn't below the present one must never raise it.
-    if x.intended_size >= order.liable || order.flags.pending {
+    // Shares lost to a self match aren't executions, so only executed counts against the size.
+    let new_open = x.intended_size.left_to_execute(order.executed);
+    // A cancel must never raise what is open, late or not.
+    if new_open >= order.open() || order.flags.pending {
         return Err(Answer::Ignored);
     }
     if order.flags.late {
         return late_cancel(stamp, (place, order), x);
     }
-    // What has been spent can't be taken back, so the total falls no lower than that.
-    let target = x.intended_size.max(order.spent());
-    let decrement = order.liable.down_to(target);
+    // Liable falls with what is open, to executed + self-matched + new open.
+    let decrement = order.open().down_to(new_open);
     Ok(Deed::canceled(
         stamp,
         (place, order),
@@ -28,7 +29,7 @@ pub fn cancel(host: &Host, stamp: Stamp, x: &Cancel) -> Result<Deed, Answer> {
     ))
 }
 
-/// In the late period a whole cancel waits, and a partial one is refused once a token.
+/// In the late period a cancel to size 0 waits, and any other is refused once a token.
 fn late_cancel(
     stamp: Stamp,
     (place, mut order): (usize, Order),

@@ -77,7 +77,7 @@ pub fn replace(chance: &mut Chance, look: &Look) -> Vec<u8> {
 fn to_replace<'a>(chance: &mut Chance, look: &Look<'a>) -> Option<Row<'a>> {
     match chance.choose(&look.live_and_halted()) {
         Some(&row) if chance.one_in(2) => Some(row),
-        _ => wanted(chance, look),
+        _ => wanted(chance, look.live()),
     }
 }
 
@@ -95,12 +95,8 @@ fn shares_to_replace(chance: &mut Chance, look: &Look, row: Option<Row>) -> u32 
 }
 
 pub fn cancel(chance: &mut Chance, look: &Look) -> Vec<u8> {
-    let row = wanted(chance, look);
-    let size = if chance.one_in(4) {
-        0
-    } else {
-        v::shares_about(chance, look, row)
-    };
+    let row = to_cancel(chance, look);
+    let size = v::intended_size(chance, look, row);
     [
         b"X".as_slice(),
         &v::stamp(chance, look).to_be_bytes(),
@@ -108,6 +104,17 @@ pub fn cancel(chance: &mut Chance, look: &Look) -> Vec<u8> {
         &size.to_be_bytes(),
     ]
     .concat()
+}
+
+/// A row as others want it; where some have self-matched shares, one of those half the time.
+fn to_cancel<'a>(chance: &mut Chance, look: &Look<'a>) -> Option<Row<'a>> {
+    let self_matched = look.live_and_self_matched();
+    let from = if !self_matched.is_empty() && chance.one_in(2) {
+        self_matched
+    } else {
+        look.live()
+    };
+    wanted(chance, from)
 }
 
 pub fn modify(chance: &mut Chance, look: &Look) -> Vec<u8> {
@@ -139,14 +146,13 @@ fn lower_total(chance: &mut Chance, row: Row) -> u32 {
     row.spent().saturating_add(above_spent)
 }
 
-/// A live row; while there are late ones, one of them at least a third of the time.
-fn wanted<'a>(chance: &mut Chance, look: &Look<'a>) -> Option<Row<'a>> {
-    let live = look.live();
-    let late: Vec<Row> = live.iter().copied().filter(|row| row.late()).collect();
+/// One of the rows; while there are late ones, one of them at least a third of the time.
+fn wanted<'a>(chance: &mut Chance, rows: Vec<Row<'a>>) -> Option<Row<'a>> {
+    let late: Vec<Row> = rows.iter().copied().filter(|row| row.late()).collect();
     let from = if !late.is_empty() && chance.one_in(3) {
         late
     } else {
-        live
+        rows
     };
     chance.choose(&from).copied()
 }

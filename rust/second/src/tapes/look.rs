@@ -72,7 +72,14 @@ impl<'a> Look<'a> {
         rows
     }
 
-    /// Those of them whose stock is halted.
+    /// Those of them that have self-matched shares.
+    pub fn live_and_self_matched(&self) -> Vec<Row<'a>> {
+        let mut rows = self.live();
+        rows.retain(|row| row.self_matched() > 0);
+        rows
+    }
+
+    /// Those of the live ones whose stock is halted.
     pub fn live_and_halted(&self) -> Vec<Row<'a>> {
         let halted = self.stocks_in(b'H');
         let mut rows = self.live();
@@ -98,10 +105,17 @@ impl Row<'_> {
         number(self.0, 16, 4) as u32
     }
 
+    pub fn executed(self) -> u32 {
+        number(self.0, 20, 4) as u32
+    }
+
+    pub fn self_matched(self) -> u32 {
+        number(self.0, 24, 4) as u32
+    }
+
     /// Executed + self-matched.
     pub fn spent(self) -> u32 {
-        let spent = number(self.0, 20, 4) + number(self.0, 24, 4);
-        u32::try_from(spent).unwrap_or(u32::MAX)
+        self.executed().saturating_add(self.self_matched())
     }
 
     pub fn open(self) -> u32 {

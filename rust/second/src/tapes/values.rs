@@ -56,6 +56,25 @@ pub fn shares_about(chance: &mut Chance, look: &Look, row: Option<Row>) -> u32 {
     }
 }
 
+/// An intended size wherever a Cancel of this row turns: at executed, up to which it leaves nothing
+/// open; at executed + open, from which on it is ignored; at liable, where it would turn if
+/// self-matched shares counted; or anything between. Often 0.
+pub fn intended_size(chance: &mut Chance, look: &Look, row: Option<Row>) -> u32 {
+    let (executed, self_matched, open) = row.map_or((0, 0, 0), |row| {
+        (row.executed(), row.self_matched(), row.open())
+    });
+    let all = executed.saturating_add(open);
+    let liable = all.saturating_add(self_matched);
+    match chance.below(14) {
+        0..=2 => 0,
+        3 => chance.pick(&[1, u32::MAX]),
+        4..=9 => around(chance, &[executed, all, liable]),
+        10 | 11 => executed.saturating_add(chance.below(u64::from(open) + 1) as u32),
+        12 => all.saturating_add(chance.below(u64::from(self_matched) + 1) as u32),
+        _ => shares_about(chance, look, row),
+    }
+}
+
 /// Shares for a new order: mostly what will be accepted.
 pub fn shares_to_enter(chance: &mut Chance, look: &Look) -> u32 {
     let below = look.threshold().saturating_sub(1);

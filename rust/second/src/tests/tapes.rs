@@ -1,6 +1,7 @@
 //! Random tapes: nothing panics, nothing refused changes anything, and everything is reached.
 
 use std::collections::BTreeSet;
+use std::ops::Range;
 
 use super::kit::{Desk, O, cancel, first_bad, listed, number, system, told_at};
 use crate::tapes::judged::{ENTRIES, of_entry, of_message, places};
@@ -74,7 +75,30 @@ impl Run {
             "the kept host differs"
         );
         self.seen.insert(format!("answer {answer}"));
+        if let ([b'X', ..], 0 | 1) = (entry, answer) {
+            self.note_cancel(entry, &before.0);
+        }
         answer
+    }
+
+    /// Notes where the size of a Cancel stood among the shares of a live order that has self-matched
+    /// ones and no cancel pending.
+    fn note_cancel(&mut self, entry: &[u8], table: &[u8]) {
+        let used = number(&table[4..8]) as usize;
+        let mut rows = table[64..].chunks(80).take(used);
+        let Some(row) = rows.find(|row| row[1..15] == entry[9..23]) else {
+            return;
+        };
+        let [liable, executed, self_matched] = [16, 20, 24].map(|at| number(&row[at..at + 4]));
+        let (size, late, pending) = (number(&entry[23..27]), row[64] & 1, row[64] & 2);
+        if row[0] != b'L' || self_matched == 0 || pending != 0 {
+            return;
+        }
+        for (turn, sizes) in turns(executed, liable - self_matched, liable) {
+            if sizes.contains(&size) {
+                self.seen.insert(format!("X {turn}, late {late}"));
+            }
+        }
     }
 
     /// The same step by a host of its own and an outbox of its own.
@@ -171,6 +195,27 @@ impl Run {
     }
 }
 
+/// Where a Cancel turns, or would if self-matched shares counted, and what lies between: `all` is
+/// the size that would leave open what is open.
+fn turns(executed: u64, all: u64, liable: u64) -> [(&'static str, Range<u64>); 13] {
+    let one = |size: u64| size..size + 1;
+    [
+        ("0", one(0)),
+        ("below executed", 1..executed),
+        ("executed", one(executed)),
+        ("executed + 1", one(executed + 1)),
+        ("executed to all", executed + 2..all - 1),
+        ("all - 1", one(all - 1)),
+        ("all", one(all)),
+        ("all + 1", one(all + 1)),
+        ("all to liable", all + 2..liable - 1),
+        ("liable - 1", one(liable - 1)),
+        ("liable", one(liable)),
+        ("liable + 1", one(liable + 1)),
+        ("most", one(u64::from(u32::MAX))),
+    ]
+}
+
 /// What a list must be after a step: only a done h changes it, at the state of its symbol.
 fn list_after(list: &[u8], entry: &[u8], answer: u8) -> Vec<u8> {
     let mut list = list.to_vec();
@@ -221,6 +266,17 @@ fn tapes_reach_every_answer_message_and_reason() {
         want(what.to_string());
     }
     assert!(missing.is_empty(), "never seen: {missing:?}");
+}
+
+#[test]
+fn tapes_cancel_self_matched_orders_wherever_the_rule_turns() {
+    let seen = run_tapes(0..300, 120);
+    for late in [0, 1] {
+        for (turn, _) in turns(1, 2, 3) {
+            let cancel = format!("X {turn}, late {late}");
+            assert!(seen.contains(&cancel), "never seen: {cancel}");
+        }
+    }
 }
 
 /// Every place that a bad byte can be told at, of every kind.

@@ -66,11 +66,11 @@ fn number_6_self_match_50_then_replace_500_shows_350() {
 }
 
 #[test]
-fn number_7_self_match_50_then_cancel_300_leaves_150() {
+fn number_7_self_match_50_then_cancel_300_leaves_200() {
     let mut desk = Desk::worked();
     assert_eq!(desk.sent(&self_match(4, "A", 50))[0], b'D');
-    assert_eq!(desk.sent(&cancel(5, "A", 300)), canceled(5, "A", 200, b'U'));
-    assert_eq!(desk.shares(0), ('L', 300, 100, 50));
+    assert_eq!(desk.sent(&cancel(5, "A", 300)), canceled(5, "A", 150, b'U'));
+    assert_eq!(desk.shares(0), ('L', 350, 100, 50));
 }
 
 #[test]

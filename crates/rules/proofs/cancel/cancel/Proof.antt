@@ -1,6 +1,7 @@
 -- Each return is the guard that its tests led to. Assumes nothing.
 use Rattle.octets.proofs.Proving.{answered, unasked}
 use Rattle.rules.specs.Cancel.{cancelRule}
+use Rattle.rules.proofs.Heard.{cancel-smaller}
 use Rattle.rules.proofs.cancel.cancel.Statement.{statement}
 use Rattle.rules.proofs.cancel.cancel.Tie as tie
 
@@ -15,6 +16,11 @@ returns-2 c =
     rw (answered (p .before .before .cancel-ignored .ensures) (p .before .if1 .left), answered (p .is .ensures) (c .before .if2 .taken))
     (c .late-cancel .ensures)
 
+canceled-order-requires : tie.Need-canceled-order-requires
+canceled-order-requires c κs =
+    let p = c .before .before in
+    cancel-smaller _ _ (answered (p .before .before .cancel-ignored .ensures) (p .before .if1 .left))
+
 returns-3 : tie.Need-returns-3
 unfolding cancelRule
 returns-3 c =
@@ -22,4 +28,4 @@ returns-3 c =
     rw (answered (p .before .before .cancel-ignored .ensures) (p .before .if1 .left), answered (p .is .ensures) (c .before .before .before .if2 .left)) cc
 
 pub cancel-spec : {M : Type 1} → statement M
-cancel-spec = tie.close (tie.spec unasked unasked returns unasked unasked returns-2 unasked unasked unasked returns-3)
+cancel-spec = tie.close (tie.spec unasked unasked returns unasked unasked returns-2 unasked canceled-order-requires unasked returns-3)

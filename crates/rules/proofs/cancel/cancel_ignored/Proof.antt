@@ -9,4 +9,4 @@ unfolding cancelIgnored
 returns c = cc
 
 pub cancel-ignored-spec : {M : Type 1} → statement M
-cancel-ignored-spec = tie.close (tie.spec unasked unasked unasked returns)
+cancel-ignored-spec = tie.close (tie.spec unasked unasked unasked unasked unasked returns)
