@@ -15,8 +15,8 @@ cut-to o size smaller = ap (λ (n : ℕ). withLiable (o .shares) (total n)) (ome
 returns : tie.Need-returns
 unfolding canceledOrder
 returns c =
-    let to = cut-to _ _ (c .before .before .before .pre) in
-    cc
+    let p = c .before .before in
+    rw (c .dead-if-spent .ensures, c .before .cut .ensures, p .decrement .ensures, cut-to _ _ (p .before .pre))
 
 pub canceled-order-spec : {M : Type 1} → statement M
 canceled-order-spec = tie.close (tie.spec unasked unasked unasked returns)

@@ -6,7 +6,7 @@ use Rattle.rules.proofs.cancel.decrement.Tie as tie
 
 returns : tie.Need-returns
 unfolding decrement
-returns c = cc
+returns c = rw (c .minus .ensures, c .before .new-open .ensures, c .before .before .open-shares .ensures)
 
 pub decrement-spec : {M : Type 1} → statement M
 decrement-spec = tie.close (tie.spec unasked unasked unasked returns)
