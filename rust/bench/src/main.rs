@@ -53,6 +53,7 @@ fn main() -> ExitCode {
 fn run() -> Vec<Row> {
     let mut rows: Vec<Row> = USED.into_iter().flat_map(rows::steps).collect();
     rows.push(rows::step_over_a_long_list());
+    rows.extend(USED.into_iter().flat_map(rows::cancels));
     #[cfg(weighed)]
     rows.extend(rows::weighed(&USED));
     rows.extend(rows::release_alone());

@@ -13,9 +13,36 @@ const MOST_SHARES: u64 = 999_999;
 const HIGHEST_THRESHOLD: u32 = 1_000_000;
 const LAST_REFERENCE: u64 = 1_000_000_000_000_000_000;
 const DAY_NANOS: u64 = 86_400_000_000_000;
+/// The bytes that a Modify, a Cancel and all that they send begin with: kind or type, stamp, token.
+const HEAD_LEN: usize = 23;
+/// What they send at most: those bytes and five more.
+const SENT_LEN: usize = HEAD_LEN + 5;
+/// An order's flags.
+const LATE: u8 = 1;
+const PENDING: u8 = 2;
+const REJECT_SENT: u8 = 4;
 
 type Header = [u8; HEADER_LEN];
 pub type Record = [u8; RECORD_LEN];
+type Head = [u8; HEAD_LEN];
+
+/// What a client wants of its order.
+enum Wish {
+    Modify { side: u8, shares: u32 },
+    Cancel { size: u32 },
+}
+
+/// What becomes of the order, in the fields that a Modify or a Cancel may change, and what is sent:
+/// a letter before stamp and token, and the bytes behind them.
+struct Deed {
+    state: u8,
+    side: u8,
+    liable: u32,
+    flags: u8,
+    letter: u8,
+    tail: [u8; 5],
+    sent_len: usize,
+}
 
 /// Whether the table is sound.
 pub fn judge(table: &[u8]) -> bool {
@@ -42,11 +69,11 @@ pub fn used(table: &[u8]) -> &[Record] {
     used.unwrap_or_default()
 }
 
-/// The whole step of a Modify: table, ring, list and entry judged, the order found, the rule
-/// decided, and record, header and message written. Another kind is answered 2, since none is
+/// The whole step of a Modify or a Cancel: table, ring, list and entry judged, the order found, the
+/// rule decided, and record, header and message written. Another kind is answered 2, since none is
 /// measured.
 #[inline(never)]
-pub fn modify(
+pub fn step(
     table: &mut [u8],
     ring: &mut [u8],
     marks: &mut Marks,
@@ -56,28 +83,25 @@ pub fn modify(
     if let Some(wrong) = wrong(table, ring.len(), *marks, stocks) {
         return answer(wrong);
     }
-    let Some(entry) = <&[u8; 28]>::try_from(entry).ok().filter(|e| e[0] == b'M') else {
+    let Some((head, wish)) = read(entry) else {
         return answer(2);
     };
-    if let Some(place) = bad_byte(entry) {
+    if let Some(place) = bad_byte(head, &wish) {
         return Told { answer: 3, place };
     }
-    if entry[1..9] < table[8..16] {
+    if head[1..9] < table[8..16] {
         return answer(4);
     }
-    let Some((place, open)) = modified(table, entry) else {
+    let Some((place, deed)) = decided(table, head, wish) else {
         return answer(1);
     };
-    // A Modified begins as its Modify does: type, stamp, token, side.
-    let mut sent = [0; 28];
-    sent[..24].copy_from_slice(&entry[..24]);
-    sent[24..].copy_from_slice(&open.to_be_bytes());
-    let put = ring::put(ring, *marks, &sent);
+    let message = message(head, &deed);
+    let put = ring::put(ring, *marks, &message[..deed.sent_len]);
     if put == 0 {
-        marks.held += sent.len();
-        table[8..16].copy_from_slice(&entry[1..9]);
-        let record = &mut table[HEADER_LEN + RECORD_LEN * place..][..RECORD_LEN];
-        record[15..20].copy_from_slice(&entry[23..28]);
+        marks.held += deed.sent_len;
+        table[8..16].copy_from_slice(&head[1..9]);
+        let (records, _) = table[HEADER_LEN..].as_chunks_mut();
+        write(&mut records[place], &deed);
     }
     answer(put)
 }
@@ -98,35 +122,136 @@ fn answer(answer: u8) -> Told {
     Told { answer, place: 0 }
 }
 
-/// The first bad byte of a Modify: its stamp's first, a token's character, or its side.
-fn bad_byte(entry: &[u8; 28]) -> Option<usize> {
-    if long_number(entry, 1) >= DAY_NANOS {
+/// What an entry begins with and what it wishes; nothing where its kind is another or its length
+/// isn't its kind's.
+fn read(entry: &[u8]) -> Option<(&Head, Wish)> {
+    let (head, body) = entry.split_first_chunk::<HEAD_LEN>()?;
+    let shares = |bytes: &[u8]| bytes.try_into().ok().map(u32::from_be_bytes);
+    let wish = match (head[0], body) {
+        (b'M', &[side, ref total @ ..]) => Wish::Modify {
+            side,
+            shares: shares(total)?,
+        },
+        (b'X', size) => Wish::Cancel {
+            size: shares(size)?,
+        },
+        _ => return None,
+    };
+    Some((head, wish))
+}
+
+/// The first bad byte of an entry: its stamp's first, a token's character, or a Modify's side.
+fn bad_byte(head: &Head, wish: &Wish) -> Option<usize> {
+    if long_number(head, 1) >= DAY_NANOS {
         return Some(1);
     }
-    let mut token = entry[9..23].iter();
+    let mut token = head[9..].iter();
     if let Some(character) = token.position(|byte| !legal_character(byte)) {
         return Some(9 + character);
     }
-    (!b"BSTE".contains(&entry[23])).then_some(23)
+    match wish {
+        Wish::Modify { side, .. } if !b"BSTE".contains(side) => Some(HEAD_LEN),
+        _ => None,
+    }
 }
 
-/// Which record a Modify changes, and what is open of it then; nothing where it is ignored.
-fn modified(table: &[u8], entry: &[u8; 28]) -> Option<(usize, u32)> {
-    let place = find(table, entry[9..23].try_into().ok()?)?;
-    let (_, records) = split(table)?;
+/// Which record an entry changes, and how; nothing where it is ignored.
+fn decided(table: &[u8], head: &Head, wish: Wish) -> Option<(usize, Deed)> {
+    let place = find(table, head.last_chunk()?)?;
+    let (header, records) = split(table)?;
     let record = &records[place];
-    let (side, shares) = (entry[23], number(entry, 24));
+    let deed = match wish {
+        Wish::Modify { side, shares } => modified(record, header[0], side, shares),
+        Wish::Cancel { size } => canceled(record, size),
+    };
+    Some((place, deed?))
+}
+
+/// What a Modify makes of its order.
+fn modified(record: &Record, day: u8, side: u8, shares: u32) -> Option<Deed> {
     let (old_side, liable) = (record[15], number(record, 16));
     let spent = number(record, 20) + number(record, 24);
     let among_sells = b"STE".contains(&side) && b"STE".contains(&old_side);
     let taken = record[0] == b'L'
-        && table[0] == 1
-        && record[64] & 1 == 0
+        && day == 1
+        && record[64] & LATE == 0
         && (side == old_side || among_sells)
         && spent < shares
         && shares <= liable
         && (side, shares) != (old_side, liable);
-    taken.then(|| (place, shares - spent))
+    if !taken {
+        return None;
+    }
+    let [a, b, c, d] = (shares - spent).to_be_bytes();
+    Some(Deed {
+        state: record[0],
+        side,
+        liable: shares,
+        flags: record[64],
+        letter: b'M',
+        tail: [side, a, b, c, d],
+        sent_len: SENT_LEN,
+    })
+}
+
+/// What a Cancel makes of its order. The size is what may be executed in all, so shares lost to a self
+/// match don't count against it.
+fn canceled(record: &Record, size: u32) -> Option<Deed> {
+    let (liable, executed) = (number(record, 16), number(record, 20));
+    let spent = executed + number(record, 24);
+    let (open, new_open) = (liable - spent, size.saturating_sub(executed));
+    let flags = record[64];
+    if record[0] != b'L' || new_open >= open || flags & PENDING != 0 {
+        return None;
+    }
+    if flags & LATE != 0 {
+        return canceled_late(record, size);
+    }
+    let [a, b, c, d] = (open - new_open).to_be_bytes();
+    Some(Deed {
+        state: if new_open == 0 { b'D' } else { b'L' },
+        side: record[15],
+        liable: spent + new_open,
+        flags,
+        letter: b'C',
+        tail: [a, b, c, d, b'U'],
+        sent_len: SENT_LEN,
+    })
+}
+
+/// In the late period a Cancel to size 0 waits, and any other is refused once a token.
+fn canceled_late(record: &Record, size: u32) -> Option<Deed> {
+    let (letter, flag) = match size {
+        0 => (b'P', PENDING),
+        _ => (b'I', REJECT_SENT),
+    };
+    let flags = record[64];
+    (flags & flag == 0).then_some(Deed {
+        state: record[0],
+        side: record[15],
+        liable: number(record, 16),
+        flags: flags | flag,
+        letter,
+        tail: [0; 5],
+        sent_len: HEAD_LEN,
+    })
+}
+
+/// The message of a deed, and zeros behind a short one.
+fn message(head: &Head, deed: &Deed) -> [u8; SENT_LEN] {
+    let mut message = [0; SENT_LEN];
+    message[..HEAD_LEN].copy_from_slice(head);
+    message[0] = deed.letter;
+    message[HEAD_LEN..].copy_from_slice(&deed.tail);
+    message
+}
+
+/// Writes what a deed changes of its record.
+fn write(record: &mut Record, deed: &Deed) {
+    record[0] = deed.state;
+    record[15] = deed.side;
+    record[16..20].copy_from_slice(&deed.liable.to_be_bytes());
+    record[64] = deed.flags;
 }
 
 /// The header and the records, where the length is a header's and some whole records'.
@@ -198,10 +323,16 @@ fn long_number<const N: usize>(bytes: &[u8; N], at: usize) -> u64 {
 #[cfg(test)]
 mod tests {
     use pilaqsevi::Marks;
-    use second::Host;
     use second::tapes::{Chance, Tapes, damage, good_list, sound_table};
+    use second::{Host, Told};
 
-    use super::{judge, modify};
+    use super::{judge, step};
+    use crate::scene::Scene;
+
+    /// Where a table's second record has its state, its shares and its flags.
+    const STATE: usize = 64 + 80;
+    const SHARES: usize = STATE + 16;
+    const FLAGS: usize = STATE + 64;
 
     #[test]
     fn judges_as_the_second_host_does() {
@@ -219,8 +350,28 @@ mod tests {
         assert!(sound > 1_000 && unsound > 1_000, "{sound} {unsound}");
     }
 
-    #[test]
-    fn modifies_as_the_second_host_does() {
+    /// A step by hand and the second host's, which must tell the same and leave the same bytes. Gives
+    /// what they told.
+    fn both(
+        table: &mut Vec<u8>,
+        ring: &mut [u8; 80],
+        marks: &mut Marks,
+        stocks: &mut [u8],
+        entry: &[u8],
+    ) -> Told {
+        let mut right = (table.clone(), *ring, marks.at, marks.held);
+        let listed = stocks.to_vec();
+        let (t, r, a, h) = (&mut right.0, &mut right.1, &mut right.2, &mut right.3);
+        let told = second::step(t, r, a, h, stocks, entry);
+        assert_eq!(step(table, ring, marks, &listed, entry), told);
+        assert!((table.as_slice(), *ring) == (right.0.as_slice(), right.1));
+        assert_eq!((marks.at, marks.held), (right.2, right.3));
+        assert!(listed == stocks, "neither kind touches the list");
+        told
+    }
+
+    /// Entries of a kind over all kinds of tables, rings and lists, damaged ones among them.
+    fn goes_as_the_second_host_does(kind: u8) {
         let (mut chance, mut tapes) = (Chance::new(3), Tapes::new(3));
         let mut answered = [0; 15];
         while answered.iter().sum::<u32>() < 20_000 {
@@ -231,7 +382,7 @@ mod tests {
             }
             let mut stocks = good_list(&mut chance, &table);
             let entry = tapes.entry(&table, &stocks);
-            if entry.first() != Some(&b'M') {
+            if entry.first() != Some(&kind) {
                 continue;
             }
             if chance.one_in(8) {
@@ -240,19 +391,63 @@ mod tests {
             if chance.one_in(8) {
                 damage::stocks(&mut chance, &mut stocks);
             }
-            let mut ring = [0; 80];
             let (at, held) = (chance.place(81), chance.place(82));
-            let mut marks = Marks { at, held };
-            let mut right = (table.clone(), ring, at, held);
-            let (t, r, a, h) = (&mut right.0, &mut right.1, &mut right.2, &mut right.3);
-            let told = second::step(t, r, a, h, &mut stocks, &entry);
-            let plain = modify(&mut table, &mut ring, &mut marks, &stocks, &entry);
-            assert_eq!(plain, told);
-            assert!((table, ring, marks.at, marks.held) == right);
+            let (mut ring, mut marks) = ([0; 80], Marks { at, held });
+            let told = both(&mut table, &mut ring, &mut marks, &mut stocks, &entry);
             answered[usize::from(told.answer)] += 1;
         }
         for answer in [0, 1, 2, 3, 4, 9, 10, 11, 14] {
             assert!(answered[answer] > 20, "{answered:?}");
+        }
+    }
+
+    #[test]
+    fn modifies_as_the_second_host_does() {
+        goes_as_the_second_host_does(b'M');
+    }
+
+    #[test]
+    fn cancels_as_the_second_host_does() {
+        goes_as_the_second_host_does(b'X');
+    }
+
+    /// A Cancel of the scene's order, into a ring with room for so many bytes: the answer, the letter
+    /// of what is sent, and the order's state after it.
+    fn canceled(scene: &Scene, size: u32, flags: u8, room: usize) -> (u8, Option<u8>, u8) {
+        let mut scene = scene.clone();
+        scene.table[FLAGS] = flags;
+        scene.entry[23..].copy_from_slice(&size.to_be_bytes());
+        let (at, held) = (70, 80 - room);
+        let (mut ring, mut marks) = ([0; 80], Marks { at, held });
+        let (table, stocks) = (&mut scene.table, &mut scene.stocks);
+        let told = both(table, &mut ring, &mut marks, stocks, &scene.entry);
+        let sent = (marks.held > held).then(|| ring[(at + held) % 80]);
+        (told.answer, sent, scene.table[STATE])
+    }
+
+    /// 500 shares of which 100 are executed and 50 self-matched: sizes below 450 would leave less than
+    /// the 350 that are open, and those up to 100 nothing.
+    #[test]
+    fn cancels_to_every_size_under_all_flags() {
+        let mut scene = Scene::to_cancel(2);
+        scene.table.truncate(64 + 2 * 80);
+        let shares = [500_u32, 100, 50].map(u32::to_be_bytes);
+        scene.table[SHARES..SHARES + 12].copy_from_slice(shares.as_flattened());
+        for size in (0..=501).chain([u32::MAX]) {
+            for flags in 0..=255 {
+                let (answer, sent, state, len) = match (size, flags & 7) {
+                    (450.., _) | (_, 2 | 3 | 6 | 7) | (1.., 5) => (1, None, b'L', 28),
+                    (..=100, 0 | 4) => (0, Some(b'C'), b'D', 28),
+                    (_, 0 | 4) => (0, Some(b'C'), b'L', 28),
+                    (0, _) => (0, Some(b'P'), b'L', 23),
+                    _ => (0, Some(b'I'), b'L', 23),
+                };
+                let right = (answer, sent, state);
+                assert_eq!(canceled(&scene, size, flags, len), right);
+                let blocked = if answer == 0 { 9 } else { answer };
+                let right = (blocked, None, b'L');
+                assert_eq!(canceled(&scene, size, flags, len - 1), right);
+            }
         }
     }
 }

@@ -6,6 +6,8 @@ use std::time::{Duration, Instant};
 const ROUNDS: u32 = 500;
 /// Calls a turn: so few that most turns aren't disturbed, and so even that to and fro end alike.
 pub const CALLS: u32 = 128;
+/// Calls that a runner makes in all.
+pub const CALLS_A_RACE: u32 = ROUNDS * CALLS;
 
 /// Has one turn: prepares what it needs, and then tells how long its calls took.
 pub type Runner<'a> = &'a mut dyn FnMut() -> Duration;

@@ -16,7 +16,7 @@ use crate::{find, list, scales, scene::Alike, search};
 
 /// A ring that has room for what a turn of steps sends.
 const RING_LEN: usize = 4_096;
-/// The length of a Modified, which the scene's entries send.
+/// The length of a Modified and of a Canceled, which the scenes' entries send.
 const SENT: usize = 28;
 const _: () = assert!(SENT * CALLS as usize <= RING_LEN);
 
@@ -45,12 +45,8 @@ impl Row {
 /// of the job, and all of it; and beside the second host that judged once and keeps an index.
 pub fn steps(used: usize) -> Vec<Row> {
     let scene = Scene::new(used);
-    let mut proved = Over::new(scene.clone());
-    let mut by_hand = Over::new(scene.clone());
-    let mut host = Host::load(&scene.table).expect("the scene's table is sound");
-    let mut outbox = Outbox::empty(RING_LEN).expect("the ring's length is right");
-    let mut listed = scene.stocks.clone();
-    let mut stocks = Stocks::over(&mut listed).expect("the scene's list is good");
+    let (mut proved, mut by_hand) = (Over::new(&scene), Over::new(&scene));
+    let mut host = Kept::new(&scene);
     let [step, part, whole, kept] = race([
         &mut || proved.proved_steps(),
         &mut || {
@@ -61,18 +57,10 @@ pub fn steps(used: usize) -> Vec<Row> {
             })
         },
         &mut || by_hand.plain_steps(),
-        &mut || {
-            outbox.release(outbox.held());
-            let mut entries = scene.to_and_fro.iter().cycle();
-            timed(|| {
-                let entry = entries.next().expect("a cycle has no end");
-                assert_eq!(host.offer(&mut outbox, &mut stocks, entry).answer, 0);
-            })
-        },
+        &mut || host.steps(),
     ]);
     let what = format!("step, {used} used");
-    // With one record there is next to nothing to judge and to find.
-    let claim = (used > 1).then_some(0.6);
+    let claim = claim_for(used);
     vec![
         Row::new(&what, step, "plain: judge and find alone", part, claim),
         Row::new(&what, step, "plain, the same job", whole, claim),
@@ -80,11 +68,36 @@ pub fn steps(used: usize) -> Vec<Row> {
     ]
 }
 
+/// A Cancel that is done, as a step is a Modify, beside all of the job by hand and beside the second
+/// host.
+pub fn cancels(used: usize) -> Vec<Row> {
+    let scene = Scene::to_cancel(used);
+    let (mut proved, mut by_hand) = (Over::new(&scene), Over::new(&scene));
+    let mut host = Kept::new(&scene);
+    let [cancel, whole, kept] = race([
+        &mut || proved.proved_steps(),
+        &mut || by_hand.plain_steps(),
+        &mut || host.steps(),
+    ]);
+    let what = format!("cancel, {used} used");
+    let claim = claim_for(used);
+    vec![
+        Row::new(&what, cancel, "plain, the same job", whole, claim),
+        Row::new(&what, cancel, "second host, kept", kept, None),
+    ]
+}
+
+/// What is claimed of a table that is judged; with one record there is next to nothing to judge and
+/// to find.
+fn claim_for(used: usize) -> Option<f64> {
+    (used > 1).then_some(0.6)
+}
+
 /// A step over the shortest table in use and the longest list, which is judged too.
 pub fn step_over_a_long_list() -> Row {
     let mut scene = Scene::new(1);
     scene.stocks = long_list();
-    let (mut proved, mut by_hand) = (Over::new(scene.clone()), Over::new(scene));
+    let (mut proved, mut by_hand) = (Over::new(&scene), Over::new(&scene));
     let [step, whole] = race([&mut || proved.proved_steps(), &mut || by_hand.plain_steps()]);
     let what = "step, 1 used, list of 2000";
     Row::new(what, step, "plain, the same job", whole, None)
@@ -110,8 +123,8 @@ fn sound_alone(used: usize) -> Row {
         &mut || timed(|| assert!(scales::sound(black_box(&table)))),
         &mut || timed(|| assert!(black_box(plain::judge(black_box(&table))))),
     ]);
-    let claim = (used > 1).then_some(0.6);
     let what = format!("sound, {used} used");
+    let claim = claim_for(used);
     Row::new(&what, proved, "plain, judged alike", other, claim)
 }
 
@@ -292,16 +305,18 @@ fn full() -> Marks {
     }
 }
 
-/// A scene of a host's own, and a ring.
+/// A scene of a runner's own, and a ring.
 struct Over {
     scene: Scene,
     ring: [u8; RING_LEN],
 }
 
 impl Over {
-    fn new(scene: Scene) -> Over {
-        let ring = [0; RING_LEN];
-        Over { scene, ring }
+    fn new(scene: &Scene) -> Over {
+        Over {
+            scene: scene.clone(),
+            ring: [0; RING_LEN],
+        }
     }
 
     /// A turn of proved steps.
@@ -314,7 +329,7 @@ impl Over {
     /// A turn of the same steps by hand.
     fn plain_steps(&mut self) -> Duration {
         self.steps(|table, ring, marks, stocks, entry| {
-            plain::modify(table, ring, marks, stocks, entry).answer
+            plain::step(table, ring, marks, stocks, entry).answer
         })
     }
 
@@ -324,12 +339,49 @@ impl Over {
         mut step: impl FnMut(&mut [u8], &mut [u8], &mut Marks, &mut [u8], &[u8]) -> u8,
     ) -> Duration {
         let Over { scene, ring } = self;
-        let mut entries = scene.to_and_fro.iter().cycle();
+        let (table, stocks) = (&mut scene.table, &mut scene.stocks);
         let mut marks = Marks::default();
-        timed(|| {
-            let entry = entries.next().expect("a cycle has no end");
-            let answer = step(&mut scene.table, ring, &mut marks, &mut scene.stocks, entry);
-            assert_eq!(answer, 0);
+        all_done(&mut scene.entry, scene.next, |entry| {
+            step(table, ring, &mut marks, stocks, entry)
         })
     }
+}
+
+/// The second host, which judged a scene's table once and keeps an index, and an outbox.
+struct Kept {
+    scene: Scene,
+    host: Host,
+    outbox: Outbox<Vec<u8>>,
+}
+
+impl Kept {
+    fn new(scene: &Scene) -> Kept {
+        Kept {
+            scene: scene.clone(),
+            host: Host::load(&scene.table).expect("the scene's table is sound"),
+            outbox: Outbox::empty(RING_LEN).expect("the ring's length is right"),
+        }
+    }
+
+    /// A turn of steps that are done.
+    fn steps(&mut self) -> Duration {
+        let Kept {
+            scene,
+            host,
+            outbox,
+        } = self;
+        let mut stocks = Stocks::over(&mut scene.stocks).expect("the scene's list is good");
+        outbox.release(outbox.held());
+        all_done(&mut scene.entry, scene.next, |entry| {
+            host.offer(outbox, &mut stocks, entry).answer
+        })
+    }
+}
+
+/// A turn of steps that are done, each with the entry that is next to the last one's.
+fn all_done(entry: &mut [u8], next: fn(&mut [u8]), mut step: impl FnMut(&[u8]) -> u8) -> Duration {
+    timed(|| {
+        assert_eq!(step(entry), 0);
+        next(entry);
+    })
 }

@@ -4,23 +4,39 @@
 use second::tapes::{Chance, message};
 use second::{echo, fresh, step};
 
+use crate::race::CALLS_A_RACE;
+
 /// The table's records, of which some are used.
 const RECORDS: usize = 800;
 /// The stamp of all entries; an equal stamp is never too low.
 const STAMP: [u8; 8] = 1_u64.to_be_bytes();
 /// A list of the one stock that every order is in, and it trades.
 const ONE_STOCK: &[u8; 9] = b"IBM     T";
+/// The price of every order and execution.
+const PRICE: [u8; 4] = 1_234_500_u32.to_be_bytes();
 /// The shares of every order.
-const SHARES: [u8; 4] = 500_u32.to_be_bytes();
+const SHARES: u32 = 500;
+/// The shares of the order that is cancelled again and again, the most that there are, and how many
+/// of them are spent: of both kinds, since a Cancel counts only one of them.
+const MOST_SHARES: u32 = 999_999;
+const EXECUTED: u32 = 100_000;
+const SELF_MATCHED: u32 = 50_000;
+/// The highest size to which a Cancel of it is done: one below executed + open. From there on each
+/// lower size is done too, and a race is over before one leaves nothing open.
+const FIRST_SIZE: u32 = MOST_SHARES - SELF_MATCHED - 1;
+const _: () = assert!(FIRST_SIZE - CALLS_A_RACE > EXECUTED);
 
-/// A table, a list, the token of the table's last used record, and two Modify entries for that
-/// token which change its side to and fro: each is done for ever, after a search of all used records.
+/// A table, a list, the token of the table's last used record, and an entry for that token that is
+/// done after a search of all used records. Changed a little, it is done again, and so on all through
+/// a race, so that no table is laid anew.
 #[derive(Clone)]
 pub struct Scene {
     pub table: Vec<u8>,
     pub stocks: Vec<u8>,
     pub token: [u8; 14],
-    pub to_and_fro: [Vec<u8>; 2],
+    pub entry: Vec<u8>,
+    /// Makes of an entry that was done the next one.
+    pub next: fn(&mut [u8]),
 }
 
 /// Which nine characters all tokens of a table share; in the other five each has its number.
@@ -32,28 +48,67 @@ pub enum Alike {
 }
 
 impl Scene {
-    /// A day that is open, with so many live orders to sell, all in the one stock that is listed.
+    /// A day that is open, with so many live orders to sell, all in the one stock that is listed. Its
+    /// entry is a Modify, and the next one changes the side back.
     pub fn new(used: usize) -> Scene {
         Scene::of(used, Alike::InFront)
     }
 
     /// The same, with tokens that are alike there.
     pub fn of(used: usize, alike: Alike) -> Scene {
-        let mut table = vec![0; 64 + 80 * RECORDS];
-        assert_eq!(fresh(&mut table, 1_000_000, &[*b"ABCD"]), 0);
-        offer(&mut table, &[b"s".as_slice(), &STAMP, b"S"].concat());
-        for order in 1..=used {
-            offer(&mut table, &enter(&token(order, alike)));
-        }
-        let token = token(used, alike);
-        let modify = |side| [b"M".as_slice(), &STAMP, &token, side, &SHARES].concat();
+        let (table, token) = day(used, alike, SHARES);
+        let modify = entry(b'M', &token, &[b"T", &SHARES.to_be_bytes()]);
         Scene {
             table,
             stocks: ONE_STOCK.to_vec(),
             token,
-            to_and_fro: [modify(b"T"), modify(b"S")],
+            entry: modify,
+            next: change_side,
         }
     }
+
+    /// The same day, but the last order has the most shares, some of them spent. Its entry is a
+    /// Cancel, and the next one leaves one share less.
+    pub fn to_cancel(used: usize) -> Scene {
+        let (mut table, token) = day(used, Alike::InFront, MOST_SHARES);
+        let (executed, self_matched) = (EXECUTED.to_be_bytes(), SELF_MATCHED.to_be_bytes());
+        let execution: [&[u8]; 4] = [&executed, &PRICE, b"A", &[0; 8]];
+        offer(&mut table, &entry(b'e', &token, &execution));
+        let self_match: [&[u8]; 4] = [&self_matched, &self_matched, &PRICE, b"A"];
+        offer(&mut table, &entry(b'q', &token, &self_match));
+        let cancel = entry(b'X', &token, &[&FIRST_SIZE.to_be_bytes()]);
+        Scene {
+            table,
+            stocks: ONE_STOCK.to_vec(),
+            token,
+            entry: cancel,
+            next: lower_size,
+        }
+    }
+}
+
+/// Makes the side of a Modify S where it was T, and T where it was S.
+fn change_side(modify: &mut [u8]) {
+    modify[23] ^= b'S' ^ b'T';
+}
+
+/// Makes the intended size of a Cancel, which ends with it, one less.
+fn lower_size(cancel: &mut [u8]) {
+    let size = cancel.last_chunk_mut().expect("a Cancel has a size");
+    *size = (u32::from_be_bytes(*size) - 1).to_be_bytes();
+}
+
+/// A table with so many live orders, of which the last has so many shares, and the token of that one.
+fn day(used: usize, alike: Alike, last_shares: u32) -> (Vec<u8>, [u8; 14]) {
+    let mut table = vec![0; 64 + 80 * RECORDS];
+    assert_eq!(fresh(&mut table, 1_000_000, &[*b"ABCD"]), 0);
+    offer(&mut table, &[b"s".as_slice(), &STAMP, b"S"].concat());
+    for order in 1..used {
+        offer(&mut table, &enter(&token(order, alike), SHARES));
+    }
+    let last = token(used, alike);
+    offer(&mut table, &enter(&last, last_shares));
+    (table, last)
 }
 
 /// An entry that the table takes, its message thrown away.
@@ -74,22 +129,24 @@ fn token(order: usize, alike: Alike) -> [u8; 14] {
         .expect("nine characters and five digits")
 }
 
-fn enter(token: &[u8; 14]) -> Vec<u8> {
-    [
-        b"O".as_slice(),
-        &STAMP,
-        token,
+fn enter(token: &[u8; 14], shares: u32) -> Vec<u8> {
+    let body: [&[u8]; 9] = [
         b"S",
-        &SHARES,
+        &shares.to_be_bytes(),
         b"IBM     ",
-        &1_234_500_u32.to_be_bytes(),
+        &PRICE,
         &99_999_u32.to_be_bytes(),
         b"ABCD",
         b"YPN",
         &[0; 4],
         b"N",
-    ]
-    .concat()
+    ];
+    entry(b'O', token, &body)
+}
+
+/// An entry about this token.
+fn entry(kind: u8, token: &[u8; 14], body: &[&[u8]]) -> Vec<u8> {
+    [&[kind], STAMP.as_slice(), token, &body.concat()].concat()
 }
 
 /// The longest list: names of capitals, far apart, of which every seventh is halted.
@@ -126,23 +183,52 @@ pub fn messages() -> Vec<(bool, Vec<u8>)> {
 
 #[cfg(test)]
 mod tests {
-    use super::{Alike, RECORDS, Scene, long_list, messages};
+    use second::{Host, Outbox, Stocks};
+
+    use super::{Alike, CALLS_A_RACE, RECORDS, Scene, long_list, messages};
     use crate::{list, plain};
 
+    /// Offers a scene's entry to its table, and makes the next one.
+    fn play(scene: &mut Scene) {
+        super::offer(&mut scene.table, &scene.entry);
+        (scene.next)(&mut scene.entry);
+    }
+
     #[test]
-    fn a_scene_goes_on_for_ever() {
+    fn a_scene_is_sound_and_its_last_order_is_found() {
         for used in [1, 100, RECORDS] {
-            let mut scene = Scene::new(used);
-            assert!(plain::judge(&scene.table) && list::judge(&scene.stocks));
-            assert_eq!(plain::find(&scene.table, &scene.token), Some(used - 1));
-            let first = scene.table.clone();
-            for _ in 0..3 {
-                for entry in &scene.to_and_fro {
-                    super::offer(&mut scene.table, entry);
-                }
-                assert!(scene.table == first);
+            for scene in [Scene::new(used), Scene::to_cancel(used)] {
+                assert!(plain::judge(&scene.table) && list::judge(&scene.stocks));
+                assert_eq!(plain::find(&scene.table, &scene.token), Some(used - 1));
             }
         }
+    }
+
+    #[test]
+    fn modifies_go_on_for_ever() {
+        let mut scene = Scene::new(2);
+        let first = (scene.table.clone(), scene.entry.clone());
+        for _ in 0..3 {
+            play(&mut scene);
+            assert!(scene.table != first.0 && scene.entry != first.1);
+            play(&mut scene);
+            assert!((&scene.table, &scene.entry) == (&first.0, &first.1));
+        }
+    }
+
+    #[test]
+    fn cancels_go_on_all_through_a_race() {
+        let mut scene = Scene::to_cancel(1);
+        let mut host = Host::load(&scene.table).unwrap();
+        let mut stocks = Stocks::over(&mut scene.stocks).unwrap();
+        let mut outbox = Outbox::empty(80).unwrap();
+        for _ in 0..CALLS_A_RACE {
+            let told = host.offer(&mut outbox, &mut stocks, &scene.entry);
+            assert_eq!((told.answer, outbox.held()), (0, 28));
+            outbox.release(28);
+            (scene.next)(&mut scene.entry);
+        }
+        assert_eq!(host.image()[64], b'L');
     }
 
     #[test]
