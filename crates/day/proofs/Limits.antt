@@ -1,28 +1,26 @@
 -- Executions plus open of a record never rise, whatever entries follow. So a done Cancel limits executions for good. Assumes nothing.
-use Rattle.octets.proofs.Proving.{List, [], _+_, _<_, _≡_, _≤_, arith, ap, false, subst, true, ℕ}
+use Rattle.octets.proofs.Proving.{List, [], _+_, _<_, _≡_, _≤_, ap, arith, subst, true, ℕ}
 use Rattle.answers.specs.Answer.{isDone}
-use Rattle.answers.specs.declared.Answer.the-variants.{Done}
 use Rattle.wire.specs.declared.shares.Total.{Total}
 use Rattle.orders.specs.Counts.{gone, openShares}
-use Rattle.orders.specs.Order.{isLive, _is_}
-use Rattle.orders.specs.declared.flags.Flag.the-variants.{Late}
 use Rattle.table.specs.Table.{header, orderAt, sound}
 use Rattle.tape.specs.Kinds.{kindOf}
 use Rattle.tape.specs.declared.kinds.Kind.the-variants.{Cancels}
 use Rattle.tape.specs.Entries.{cancelOf}
 use Rattle.host.specs.Step.{Books, World, booksAfter, comesTo, step}
-use Rattle.laws.specs.Cancels.{executionsPlusOpen, before, after, itsPlace}
+use Rattle.laws.specs.Cancels.{executionsPlusOpen, itsPlace, LeavesLive}
 use Rattle.laws.proofs.Records.{Face, openIn, left-used, each-record}
 use Rattle.laws.proofs.Steps.{done-does, stays-sound}
 use Rattle.laws.proofs.Canceled.{still-there, cuts-down}
 use Rattle.day.specs.Day.{unlimited, booksWith}
+use Rattle.day.specs.Limit.{executedLater}
 use Rattle.day.proofs.Plays.{plays}
 use Rattle.day.proofs.Tokens.{left-is}
 
 -- record i is there, and its executions plus open are at most n
 record Limited (i n : ℕ) (t : List ℕ) : Type 0 where
   there : i < header t .used
-  most : executionsPlusOpen (orderAt t i) .0 ≤ n
+  most : executionsPlusOpen (orderAt t i .shares) .0 ≤ n
 
 abbrev limitIn : Face → ℕ
 limitIn f = f .executed + openIn f
@@ -45,14 +43,12 @@ unfolding booksAfter
 limited-play ss i n b ok h = plays (λ b′ past. Limited i n (b′ .table)) (λ b′ s past good done l. limited-on i n b′ s good done l) ss b [] ok h
 
 -- after a done Cancel that leaves the order live, whatever entries follow: no more is executed of it than the intended size
-pub limited-for-good : (w : World) (s : List ℕ) → kindOf s ≡ Cancels → step w s .answer ≡ Done → (before w (itsPlace w s) is Late) ≡ false
-    → isLive (after w s (itsPlace w s)) ≡ true → (ss : List (List ℕ))
-    → orderAt (unlimited (step w s .world .books) ss .books .table) (itsPlace w s) .shares .executed .0 ≤ cancelOf s .size .0
-unfolding executionsPlusOpen isDone
-limited-for-good w s cancels done prompt living ss =
-    let does = done-does w s (ap isDone done) in
-    let filled = cuts-down w s cancels .limited done prompt living in
+pub limited-for-good : (w : World) (s : List ℕ) → kindOf s ≡ Cancels → LeavesLive w s → (ss : List (List ℕ)) → executedLater w s ss ≤ cancelOf s .size .0
+unfolding executionsPlusOpen executedLater isDone
+limited-for-good w s cancels x ss =
+    let does = done-does w s (ap isDone (x .done)) in
+    let filled = ap (λ (n : Total). n .0) (cuts-down w s cancels .limited x) in
     let end =
     limited-play ss (itsPlace w s) (cancelOf s .size .0) (step w s .world .books) (stays-sound w s (does .ready .table))
-    (record { there = still-there w s cancels does; most = subst (λ n. executionsPlusOpen (after w s (itsPlace w s)) .0 ≤ n) (ap (λ (n : Total). n .0) filled) (omega arith) }) in
+    (record { there = still-there w s cancels does; most = omega (arith, filled) }) in
     omega (arith, end .most)

@@ -1,3 +1,4 @@
 pub mod Day
 pub mod Demand
 pub mod Chain
+pub mod Limit

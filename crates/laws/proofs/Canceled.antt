@@ -14,7 +14,7 @@ use Rattle.rules.specs.Plan.{ignored, refused, changing}
 use Rattle.rules.specs.Cancel.{newOpen, cancelIgnored, canceledOrder, lateCancel, cancelRule}
 use Rattle.rules.proofs.Heard.{cancel-live, cancel-smaller}
 use Rattle.host.specs.Step.{World, decideBy, decide, withinLimits, comesTo, settle, offer, booksAfter, worldAfter, step}
-use Rattle.laws.specs.Cancels.{executionsPlusOpen, Heard, itsPlace, CutsDown}
+use Rattle.laws.specs.Cancels.{executionsPlusOpen, ReachesRules, itsPlace, CutsDown}
 use Rattle.laws.proofs.Types.{Done, Order, Total, CancelOrder, Decision, Cancels}
 use Rattle.laws.proofs.Standing.{live-state, spent-used}
 use Rattle.laws.proofs.Given.{from-is, live-there}
@@ -48,7 +48,7 @@ obeys o e =
     From d = isDone (d .answer) ≡ true → Obeys o (e .size) (d .plan .changed)
 
 -- a size at or above executed + open is ignored
-above-ignored : (o : Order) (e : CancelOrder) → executionsPlusOpen o .0 ≤ e .size .0 → cancelRule o e ≡ ignored
+above-ignored : (o : Order) (e : CancelOrder) → executionsPlusOpen (o .shares) .0 ≤ e .size .0 → cancelRule o e ≡ ignored
 unfolding cancelRule executionsPlusOpen newOpen
 above-ignored o e above =
     guard (λ (d : Decision). d ≡ ignored) (cancelIgnored o (e .size)) (λ _. refl) λ heard.
@@ -84,11 +84,11 @@ module _ (o : Order) (size : Total) {o′ : Order} (done : Obeys o size o′) wh
       by (cuts _ same) = record { open-falls = rw same (omega (arith, smaller)); liable-falls = rw same (omega (arith, smaller)) }
 
   -- what is open then, if anything, fills up the size
-  fills-up : (o is Late) ≡ false → 0 < openShares (o′ .shares) .0 → executionsPlusOpen o′ ≡ size
+  fills-up : (o is Late) ≡ false → 0 < openShares (o′ .shares) .0 → executionsPlusOpen (o′ .shares) ≡ size
   unfolding executionsPlusOpen canceledOrder deadIfSpent openShares withLiable gone newOpen
   fills-up prompt = by (done .leaves)
     where
-      by : Left o size o′ → 0 < openShares (o′ .shares) .0 → executionsPlusOpen o′ ≡ size
+      by : Left o size o′ → 0 < openShares (o′ .shares) .0 → executionsPlusOpen (o′ .shares) ≡ size
       by (waits late flags same) = λ some. absurd (false≢true (sym prompt ∙ late))
       by (cuts _ same) = rw same (λ some. ap total (omega (arith, some)))
 
@@ -161,14 +161,14 @@ module _ (w : World) (s : List ℕ) (cancels : kindOf s ≡ Cancels) where
     some-open living none =
         records-after-step w s ok at still-there .spent (ap openIn becomes ∙ none) (live-state (orderAt t′ at) living)
 
-    fills : (orderAt t at is Late) ≡ false → isLive (orderAt t′ at) ≡ true → executionsPlusOpen (orderAt t′ at) ≡ size
+    fills : (orderAt t at is Late) ≡ false → isLive (orderAt t′ at) ≡ true → executionsPlusOpen (orderAt t′ at .shares) ≡ size
     unfolding executionsPlusOpen openShares gone
     fills prompt living =
         ap (λ (f : Face). total (f .executed + openIn f)) becomes
         ∙ fills-up o size obeyed (ap (λ (q : Order). q is Late) is-named ∙ prompt) (omega (arith, some-open living))
 
   -- what is ignored
-  comes-ignored : Heard w s → executionsPlusOpen o .0 ≤ size .0 → comesTo (w .books) s ≡ ignored
+  comes-ignored : ReachesRules w s → executionsPlusOpen (o .shares) .0 ≤ size .0 → comesTo (w .books) s ≡ ignored
   unfolding comesTo withinLimits refused isDone
   comes-ignored h above =
       rw (h .legal, le-ltb _ _ (h .in-time), decided (h .ready .table) (h .legal) ∙ above-ignored o (cancelOf s) above)
@@ -181,6 +181,6 @@ module _ (w : World) (s : List ℕ) (cancels : kindOf s ≡ Cancels) where
             λ _ d. falls-everywhere d openIn (falls o size (obeyed d) .open-falls) i l;
         liable-not-raised = λ i l. either w s (λ e. omega (arith, ap (λ (x : World). faceAt (x .books .table) i .liable) e))
             λ _ d. falls-everywhere d (λ (f : Face). f .liable) (falls o size (obeyed d) .liable-falls) i l;
-        limited = λ e. fills (done-does w s (ap isDone e));
+        limited = λ x. fills (done-does w s (ap isDone (x .done))) (x .not-late) (x .alive);
         no-smaller = λ h above. rw (h .ready .table, h .ready .ring, h .ready .stocks, comes-ignored h above);
       }

@@ -175,7 +175,7 @@ module _ (o found : Order) (t : List ℕ) (sane : Sane o) where
 
   -- a live order with other terms and another reference
   pub priority-keeps : (h : Header) (e : Priority) → Good (priorityRule h o e)
-  unfolding priorityRule prioritisedOrder withDetails executionsPlusOpen
+  unfolding priorityRule prioritisedOrder withDetails
   priority-keeps h e =
       market-keeps (isOpenDay h) true λ alive lives _.
       renumbering-keeps

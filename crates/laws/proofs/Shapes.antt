@@ -50,7 +50,7 @@ pub record Changed (named : Order) (notice : Notice) (after : Order) : Type 0 wh
   pub previous : after .details .previous ≡ named .details .previous
   pub executed : after .shares .executed .0 ≡ named .shares .executed .0 + toldExecuted notice
   -- executions plus open never rise
-  pub limit : executionsPlusOpen after .0 ≤ executionsPlusOpen named .0
+  pub limit : executionsPlusOpen (after .shares) .0 ≤ executionsPlusOpen (named .shares) .0
 
 -- a live order under the token t, which carries over these executed shares from the order of the token before it
 pub record Born (t : List ℕ) (executed : ℕ) (before : List ℕ) (new : Order) : Type 0 where
@@ -188,7 +188,7 @@ module _ {named found : Order} {token : List ℕ} {p : Plan} where
 module _ (o : Order) (alive : isLive o ≡ true) (lives : Live o) (shaped : Shaped o) where
   -- what leaves its counts alone
   pub uncounted : (flags : ℕ) {notice : Notice} → toldExecuted notice ≡ 0 → Changed o notice (withFlags o flags)
-  unfolding withFlags executionsPlusOpen
+  unfolding withFlags
   uncounted flags quiet =
       record {
         alive = alive;
@@ -202,9 +202,9 @@ module _ (o : Order) (alive : isLive o ≡ true) (lives : Live o) (shaped : Shap
 
   -- what moves them
   pub recounted : (side flags : ℕ) (s : Counts) (notice : Notice) → gone s .0 ≤ s .liable .0 → s .liable .0 ≤ mostShares
-      → s .executed .0 ≡ o .shares .executed .0 + toldExecuted notice → s .executed .0 + openShares s .0 ≤ executionsPlusOpen o .0
+      → s .executed .0 ≡ o .shares .executed .0 + toldExecuted notice → executionsPlusOpen s .0 ≤ executionsPlusOpen (o .shares) .0
       → Changed o notice (deadIfSpent (withFlags (withSide o side) flags) s)
-  unfolding deadIfSpent withFlags withSide executionsPlusOpen
+  unfolding deadIfSpent withFlags withSide
   recounted side flags s notice within most told limit =
       record {
         alive = alive;
