@@ -13,7 +13,12 @@ static const char message[] = "XTOKEN1        \0\0\0\0";
 
 static const char halt[] = "h\0\0\0\0\0\0\0\3ABC     H";
 
-static uint8_t table[PQ_TABLE_SIZE(1)], ring[PQ_SHORTEST_RING], out[PQ_LONGEST_MESSAGE];
+/* What the purge port takes: a reference, a firm, no account, and in a Mass Cancel a symbol, or spaces for all, and no appendage. */
+static const char mass_cancel[] = "M\0\0\0\1ABCD              \0\0";
+static const char disable[] = "D\0\0\0\2ABCD      ";
+static const char enable[] = "E\0\0\0\3ABCD      ";
+
+static uint8_t table[PQ_TABLE_SIZE(4)], ring[PQ_SHORTEST_RING], out[PQ_LONGEST_MESSAGE], made[PQ_LONGEST_ENTRY];
 static uint8_t stocks[] = {'A', 'B', 'C', ' ', ' ', ' ', ' ', ' ', 'T'};
 static struct pq_host host;
 static size_t place;
@@ -114,6 +119,102 @@ static void halts(void)
     host.stocks_len++;
 }
 
+/* A client's message or the purge port's becomes an entry, or is answered why not. */
+static void entries(void)
+{
+    memset(made, '?', sizeof made);
+    is("entry of a Mass Cancel", PQ_DONE, pq_entry(1, 4, BYTES(mass_cancel), made, sizeof made, &place));
+    is("its bytes differ", 0, memcmp(made, "w\0\0\0\0\0\0\0\4ABCD        ?", 22) != 0);
+    is("its length", 21, pq_entry_length(made[0]));
+    is("entry of it into 20 bytes", PQ_NO_ROOM, pq_entry(1, 4, BYTES(mass_cancel), made, 20, &place));
+    is("its place", 0, place);
+    is("an account, into 20 bytes", PQ_BAD_FIELD, pq_entry(1, 4, BYTES("M\0\0\0\1ABCD   1          \0\0"), made, 20, &place));
+    is("its place", 9, place);
+    is("an appendage", PQ_BAD_FIELD, pq_entry(1, 4, BYTES("M\0\0\0\1ABCD              \0\1"), made, sizeof made, &place));
+    is("its place", 23, place);
+    is("both", PQ_BAD_FIELD, pq_entry(1, 4, BYTES("M\0\0\0\1ABCD     1        \1\0"), made, sizeof made, &place));
+    is("their place", 9, place);
+    is("a Mass Cancel without its appendage length", PQ_MALFORMED, pq_entry(1, 4, (const uint8_t *)mass_cancel, 23, made, sizeof made, &place));
+    is("entry of a Disable", PQ_DONE, pq_entry(1, 4, BYTES(disable), made, sizeof made, &place));
+    is("its bytes differ", 0, memcmp(made, "d\0\0\0\0\0\0\0\4ABCD", 13) != 0);
+    is("entry of an Enable", PQ_DONE, pq_entry(255, 4, BYTES(enable), made, sizeof made, &place));
+    is("its bytes differ", 0, memcmp(made, "n\0\0\0\0\0\0\0\4ABCD", 13) != 0);
+    is("a Disable as a client's", PQ_MALFORMED, pq_entry(0, 4, BYTES(disable), made, sizeof made, &place));
+    is("entry of a client's Cancel", PQ_DONE, pq_entry(0, 3, BYTES(message), made, sizeof made, &place));
+    is("its bytes differ", 0, memcmp(made, cancel, sizeof cancel - 1) != 0);
+    is("a client's as the purge port's", PQ_MALFORMED, pq_entry(1, 3, BYTES(message), made, sizeof made, &place));
+    is("one with a bad token", PQ_BAD_FIELD, pq_entry(0, 3, BYTES("XTOKEN!        \0\0\0\0"), made, sizeof made, &place));
+    is("its place", 6, place);
+    is("a stamp of the next day", PQ_DONE, pq_entry(0, UINT64_MAX, BYTES(message), made, sizeof made, &place));
+    is("step of it", PQ_BAD_FIELD, step(made, pq_entry_length(made[0])));
+    is("its place", 1, place);
+}
+
+/* Makes an entry of a message and offers it, after what is held has gone out. */
+static uint8_t offer(uint8_t purge, const uint8_t *bytes, size_t length)
+{
+    pq_host_release(&host, host.held);
+    uint8_t answer = pq_entry(purge, 4, bytes, length, made, sizeof made, &place);
+    return answer == PQ_DONE ? step(made, pq_entry_length(made[0])) : answer;
+}
+
+/* A client's order: the one that `enter` has, with another number at the end of its token. */
+static uint8_t order(char number)
+{
+    uint8_t bytes[48];
+    bytes[0] = 'O';
+    memcpy(bytes + 1, enter + 9, sizeof bytes - 1);
+    bytes[6] = (uint8_t)number;
+    return offer(0, bytes, sizeof bytes);
+}
+
+/* Of the message that is held the first byte, and the last, which in a Canceled and a Rejected is the reason. */
+static uint8_t type_sent(void)
+{
+    return ring[host.at];
+}
+
+static uint8_t reason_sent(void)
+{
+    return ring[(host.at + host.held - 1) % sizeof ring];
+}
+
+/* The purge button: a firm's orders go, one with each entry, and its new ones are kept out until it is let in again. */
+static void purges(void)
+{
+    is("fresh, two firms", PQ_DONE, pq_host_fresh(&host, PQ_HIGHEST_THRESHOLD, BYTES("WXYZABCD")));
+    is("purge with no order, before the day", PQ_IGNORED, offer(1, BYTES(mass_cancel)));
+    is("purge of a firm that isn't listed", PQ_UNLISTED_FIRM, offer(1, BYTES("M\0\0\0\1NONE              \0\0")));
+    is("purge of no firm, which isn't the default's", PQ_UNLISTED_FIRM, offer(1, BYTES("M\0\0\0\1                  \0\0")));
+    is("block of a firm that isn't listed", PQ_UNLISTED_FIRM, offer(1, BYTES("D\0\0\0\2NONE      ")));
+    is("start of the day", PQ_DONE, step(BYTES(start)));
+    is("first order", PQ_DONE, order('1'));
+    is("second order", PQ_DONE, order('2'));
+    is("third order", PQ_DONE, order('3'));
+    is("purge of the other firm", PQ_IGNORED, offer(1, BYTES(mass_cancel)));
+    is("purge in another symbol", PQ_IGNORED, offer(1, BYTES("M\0\0\0\1WXYZ      XYZ     \0\0")));
+    is("purge in all symbols", PQ_DONE, offer(1, BYTES("M\0\0\0\1WXYZ              \0\0")));
+    is("type of what is sent", 'C', type_sent());
+    is("its reason", 'U', reason_sent());
+    is("the same entry again", PQ_DONE, step(made, pq_entry_length(made[0])));
+    is("held after it", 56, host.held);
+    is("purge in the orders' symbol", PQ_DONE, offer(1, BYTES("M\0\0\0\1WXYZ      ABC     \0\0")));
+    is("the same entry again, none left", PQ_IGNORED, step(made, pq_entry_length(made[0])));
+    is("second firm blocked", PQ_DONE, offer(1, BYTES(disable)));
+    is("nothing sent", 0, host.held);
+    is("blocked firms", 2, table[3]);
+    is("first firm blocked", PQ_DONE, offer(1, BYTES("D\0\0\0\2WXYZ      ")));
+    is("blocked firms", 3, table[3]);
+    is("order of a blocked firm", PQ_DONE, order('4'));
+    is("type of what is sent", 'J', type_sent());
+    is("its reason", 'a', reason_sent());
+    is("second firm let in again", PQ_DONE, offer(1, BYTES(enable)));
+    is("blocked firms", 1, table[3]);
+    table[3] = 4;
+    is("a bit past the firms", PQ_NOT_SOUND, offer(1, BYTES(enable)));
+    table[3] = 0;
+}
+
 static void wrongs(void)
 {
     size_t past = sizeof ring, none = 0;
@@ -149,13 +250,15 @@ static void nothings(void)
     is("read of no ring", 0, pq_read(NULL, 0, 0, 0));
     is("echo of no message", PQ_MALFORMED, pq_echo(1, NULL, 0, out, sizeof out, &place));
     is("echo into no buffer", PQ_NO_ROOM, pq_echo(1, BYTES(message), NULL, 0, &place));
+    is("entry of no message", PQ_MALFORMED, pq_entry(1, 4, NULL, 0, made, sizeof made, &place));
+    is("entry into no buffer", PQ_NO_ROOM, pq_entry(1, 4, BYTES(disable), NULL, 0, &place));
 }
 
 /* The lengths of all kinds and types, and that there are no others. */
 static void lengths(void)
 {
-    static const char kinds[] = "OUXMecqplfsh", client[] = "OUXM", host[] = "SAUCDEBJPITM";
-    static const size_t entries[] = {56, 55, 27, 28, 40, 28, 36, 27, 23, 23, 10, 18};
+    static const char kinds[] = "OUXMecqplfshwdn", client[] = "OUXM", host[] = "SAUCDEBJPITM";
+    static const size_t entries[] = {56, 55, 27, 28, 40, 28, 36, 27, 23, 23, 10, 18, 21, 13, 13};
     static const size_t clients[] = {48, 47, 19, 20}, hosts[] = {10, 66, 80, 28, 37, 40, 32, 24, 23, 23, 36, 28};
     size_t others = 0, longest_entry = 0, longest_message = 0;
     for (int letter = 0; letter < 256; letter++) {
@@ -182,6 +285,8 @@ int main(void)
     places();
     releases();
     halts();
+    entries();
+    purges();
     wrongs();
     echoes();
     nothings();

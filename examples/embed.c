@@ -1,7 +1,7 @@
 /*
  * A driver in C with the shortest ring and a slow reader: plays the tape on standard input, and writes what the host sends to standard output.
  * An entry that is blocked waits until the reader has made room, so what is sent is what a roomy ring would send; the driver plays the tape
- * beside one to show it.
+ * beside one to show it. With a word, `embed purge`, the purge button is pressed when the tape has ended.
  */
 #include "pilaqsevi.h"
 
@@ -94,16 +94,50 @@ static uint8_t offer_until_taken(const uint8_t *entry, size_t length)
     return answer;
 }
 
-int main(void)
+/* Offers an entry to both hosts, which have to answer the same. */
+static uint8_t play(const uint8_t *entry, size_t length)
+{
+    uint8_t roomys = offer(&roomy, entry, length);
+    uint8_t answer = offer_until_taken(entry, length);
+    differs |= answer != roomys || small.place != roomy.place;
+    return answer;
+}
+
+/*
+ * The purge button: a request and the time at which it came become an entry. It cancels one order of the firm, waits as any other where it is
+ * blocked, and is offered again until it is ignored: then no order is left that it could cancel.
+ */
+static void purge(uint64_t now)
+{
+    static const char request[] = "M\0\0\0\1ABCD              \0\0"; /* reference 1, the firm, no account, all symbols, no appendage */
+    uint8_t entry[PQ_LONGEST_ENTRY];
+    size_t place;
+    if (pq_entry(1, now, (const uint8_t *)request, sizeof request - 1, entry, sizeof entry, &place) == PQ_DONE)
+        while (play(entry, pq_entry_length(entry[0])) == PQ_DONE)
+            ;
+}
+
+/* The stamp of an entry. The last one that was done is this driver's clock, as no stamp may be below it. */
+static uint64_t stamp_of(const uint8_t *entry)
+{
+    uint64_t stamp = 0;
+    for (size_t i = 1; i <= 8; i++)
+        stamp = stamp << 8 | entry[i];
+    return stamp;
+}
+
+int main(int words, char **word)
 {
     uint8_t entry[PQ_LONGEST_ENTRY], answer = PQ_DONE;
+    uint64_t now = 0;
     open_desk(&small, PQ_SHORTEST_RING);
     open_desk(&roomy, ROOMY);
     for (size_t length; answer != PQ_MALFORMED && (length = next_entry(entry)) > 0;) {
-        uint8_t roomys = offer(&roomy, entry, length);
-        answer = offer_until_taken(entry, length);
-        differs |= answer != roomys || small.place != roomy.place;
+        answer = play(entry, length);
+        now = answer == PQ_DONE ? stamp_of(entry) : now;
     }
+    if (words > 1 && strcmp(word[1], "purge") == 0)
+        purge(now);
     while (small.host.held > 0)
         read_piece();
     fprintf(stderr, "%zu bytes sent, %zu offers blocked; through a ring of %zu %s\n", sent, blocked, roomy.host.ring_len,

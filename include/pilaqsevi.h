@@ -3,8 +3,8 @@
  *
  * All memory is the caller's. A function reads and writes the bytes that it is given while it runs, keeps no pointer, allocates nothing and
  * holds no state of its own. Pointers and lengths must be true, and memory that one call is given to write must not overlap anything else that
- * it is given. Where a length is 0 its pointer is not followed and may be NULL; `at` and `held` are pointers to one number each and may not.
- * Nothing else is asked: every other value is judged and answered.
+ * it is given. Where a length is 0 its pointer is not followed and may be NULL; `at`, `held` and `place` are pointers to one number each and may
+ * not. Nothing else is asked: every other value is judged and answered.
  *
  * A driver had best keep a struct pq_host, which holds all that is lent, and use the four functions over it (at the end of this file): what a
  * step is lent may grow, and such a driver is not touched by it.
@@ -30,20 +30,21 @@ extern "C" {
  */
 enum pq_answer {
     PQ_DONE = 0,
-    PQ_IGNORED = 1,      /* ignored by the rules */
-    PQ_MALFORMED = 2,    /* kind or type unknown, or length not the kind's */
-    PQ_BAD_FIELD = 3,    /* a stamp, token, letter, price or setting is bad */
-    PQ_TOO_EARLY = 4,    /* stamp below the last stamp */
-    PQ_NOT_LIVE = 5,     /* token not live, or symbol not listed */
-    PQ_WRONG_SHARES = 6, /* shares 0 or above open */
+    PQ_IGNORED = 1,       /* ignored by the rules; of w: no order is left to cancel */
+    PQ_MALFORMED = 2,     /* kind or type unknown, or length not the kind's */
+    PQ_BAD_FIELD = 3,     /* a stamp, token, letter, price, account, appendage or setting is bad */
+    PQ_TOO_EARLY = 4,     /* stamp below the last stamp */
+    PQ_NOT_LIVE = 5,      /* token not live or, of h, symbol not listed */
+    PQ_WRONG_SHARES = 6,  /* shares 0 or above open */
     PQ_WRONG_MOMENT = 7,
-    PQ_FULL = 8,         /* no record is free, or no reference is left */
-    PQ_BLOCKED = 9,      /* the message is longer than what is free in the ring: release, and offer the entry again */
-    PQ_NOT_SOUND = 10,   /* table not sound */
-    PQ_WRONG_RING = 11,  /* ring length or marks wrong */
-    PQ_NOT_HELD = 12,    /* release above the held count */
-    PQ_NO_ROOM = 13,     /* buffer too short for the echo's message */
-    PQ_WRONG_STOCKS = 14 /* list of stocks of a wrong length, not ascending, or with another state */
+    PQ_FULL = 8,          /* no record is free, or no reference is left */
+    PQ_BLOCKED = 9,       /* the message is longer than what is free in the ring: release, and offer the entry again */
+    PQ_NOT_SOUND = 10,    /* table not sound */
+    PQ_WRONG_RING = 11,   /* ring length or marks wrong */
+    PQ_NOT_HELD = 12,     /* release above the held count */
+    PQ_NO_ROOM = 13,      /* buffer too short for the echo's message, or for the entry that is made */
+    PQ_WRONG_STOCKS = 14, /* list of stocks of a wrong length, not ascending, or with another state */
+    PQ_UNLISTED_FIRM = 15 /* firm of w, d or n not listed */
 };
 
 /* Sizes in bytes, and limits. */
@@ -68,7 +69,7 @@ enum pq_answer {
 #define PQ_STOCKS_SIZE(stocks) (PQ_STOCK_SIZE * (stocks))
 
 /*
- * Makes the bytes at `table` a fresh table: day not begun, no record used, next reference 1, these settings, zeros elsewhere.
+ * Makes the bytes at `table` a fresh table: day not begun, no record used, no firm blocked, next reference 1, these settings, zeros elsewhere.
  * Its length is PQ_TABLE_SIZE of 1 to 800 records. The firms are 1 to 8 codes, one after the other, each 1 to 4 capitals and then spaces; the
  * first is the default. firms_len counts bytes.
  * Answers PQ_NOT_SOUND for a bad table_len; PQ_BAD_FIELD for bad settings, a firms_len that is no row of codes among them; PQ_DONE.
@@ -82,9 +83,13 @@ uint8_t pq_fresh(uint8_t *table, size_t table_len, uint32_t threshold, const uin
  * The list has 0 to 2,000 places of nine bytes: a symbol of eight and its state, T (trading) or H (halted), the symbols strictly ascending as
  * unsigned bytes. stocks_len counts bytes. Symbols are not judged otherwise. An entry h that is done sets one byte, its symbol's state; no other
  * entry changes the list.
- * Answers PQ_NOT_SOUND, PQ_WRONG_RING, PQ_WRONG_STOCKS, PQ_MALFORMED, PQ_BAD_FIELD, PQ_TOO_EARLY, PQ_IGNORED, PQ_NOT_LIVE, PQ_WRONG_MOMENT,
- * PQ_WRONG_SHARES, PQ_FULL, PQ_BLOCKED or PQ_DONE. An entry that was answered PQ_BLOCKED may be offered again once bytes were released, and
- * comes to the same.
+ * An entry w cancels one order, with reason U: the first in the table that is live and not late, of its firm and, unless its symbol is eight
+ * spaces, of its symbol. The next one goes with the next w, which may be the same bytes again, until PQ_IGNORED says that none is left. An entry d
+ * blocks a firm, so that its new orders are Rejected with letter a, and n lets it in again; both send nothing. None of the three asks for an open
+ * day. Byte 3 of the table has the blocked firms' bits, the lowest for the first firm; a firm that is listed twice has its first place's.
+ * Answers PQ_NOT_SOUND, PQ_WRONG_RING, PQ_WRONG_STOCKS, PQ_MALFORMED, PQ_BAD_FIELD, PQ_TOO_EARLY, PQ_UNLISTED_FIRM, PQ_IGNORED, PQ_NOT_LIVE,
+ * PQ_WRONG_MOMENT, PQ_WRONG_SHARES, PQ_FULL, PQ_BLOCKED or PQ_DONE. An entry that was answered PQ_BLOCKED may be offered again once bytes were
+ * released, and comes to the same.
  * *place is written by every call: with PQ_BAD_FIELD it is the offset of the entry's first bad byte, its kind counted as 0, that is the first byte
  * of the bad field or, in a token, the first character that no token has; with every other answer it is 0, where no field lies.
  */
@@ -110,6 +115,21 @@ uint8_t pq_release(size_t ring_len, size_t *at, size_t *held, size_t k);
  * type counted as 0, and with every other answer it is 0.
  */
 uint8_t pq_echo(uint8_t inbound, const uint8_t *message, size_t len, uint8_t *out, size_t out_len, size_t *place);
+
+/*
+ * Makes an entry of the tape from a message and its time: from one of the purge port's requests where `purge` is not 0, and otherwise from one of
+ * a client's four messages. A Mass Cancel Request (M, 25 bytes) becomes w, a Disable Order Entry Request (D, 15) becomes d and an Enable Order
+ * Entry Request (E, 15) becomes n; a client's O, U, X and M become the entries of these kinds. The stamp is written as it is given: pq_step judges
+ * it, and whether the firm is listed.
+ * Where the answer is PQ_DONE the first bytes of `entry` are the entry's, as many as pq_entry_length has for entry[0], and the others are what
+ * they were. PQ_LONGEST_ENTRY bytes have room for each.
+ * Answers PQ_MALFORMED for an unknown type or a length that is not the type's; PQ_BAD_FIELD for a client's bad token, side or sweep, and for a
+ * request's account that isn't six spaces or appendage length that isn't 0, since neither is served; PQ_NO_ROOM where entry_len is too short;
+ * PQ_DONE. *place is written by every call: with PQ_BAD_FIELD it is the offset of the message's first bad byte, its type counted as 0, that is the
+ * first byte of the bad field (9 of an account, 23 of an appendage length) or, in a token, the first character that no token has; with every other
+ * answer it is 0.
+ */
+uint8_t pq_entry(uint8_t purge, uint64_t stamp, const uint8_t *message, size_t len, uint8_t *entry, size_t entry_len, size_t *place);
 
 /*
  * The length of an entry of this kind, the byte of kind and the stamp included; 0 where there is no such kind. A driver that cuts a tape

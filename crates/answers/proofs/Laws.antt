@@ -1,6 +1,6 @@
 -- Done is the one answer whose number is 0, and a bad field the one that tells a place. Assumes nothing.
 use Rattle.octets.proofs.Proving.{_∙_, _≡_, _⊎_, ap, arith, false, false≢true, inl, inr, refl, sym, true, ℕ}
-use Rattle.answers.specs.Answer.{Answer, NotSound, WrongRing, WrongStocks, Malformed, BadField, TooEarly, Ignored, NotLive, WrongMoment, WrongShares, Full, Blocked, NotHeld, NoRoom, Done, answerNumber, answerPlace, isDone}
+use Rattle.answers.specs.Answer.{Answer, NotSound, WrongRing, WrongStocks, Malformed, BadField, TooEarly, UnlistedFirm, Ignored, NotLive, WrongMoment, WrongShares, Full, Blocked, NotHeld, NoRoom, Done, answerNumber, answerPlace, isDone}
 
 pub is-done : (a : Answer) → isDone a ≡ true → a ≡ Done
 unfolding isDone
@@ -10,6 +10,7 @@ is-done WrongStocks h = absurd (false≢true h)
 is-done Malformed h = absurd (false≢true h)
 is-done (BadField at) h = absurd (false≢true h)
 is-done TooEarly h = absurd (false≢true h)
+is-done UnlistedFirm h = absurd (false≢true h)
 is-done Ignored h = absurd (false≢true h)
 is-done NotLive h = absurd (false≢true h)
 is-done WrongMoment h = absurd (false≢true h)
@@ -32,6 +33,7 @@ by-place WrongStocks = inl ((λ z. omega (arith, z)), refl)
 by-place Malformed = inl ((λ z. omega (arith, z)), refl)
 by-place (BadField at) = inr (at, refl)
 by-place TooEarly = inl ((λ z. omega (arith, z)), refl)
+by-place UnlistedFirm = inl ((λ z. omega (arith, z)), refl)
 by-place Ignored = inl ((λ z. omega (arith, z)), refl)
 by-place NotLive = inl ((λ z. omega (arith, z)), refl)
 by-place WrongMoment = inl ((λ z. omega (arith, z)), refl)

@@ -4,7 +4,7 @@ use mathlib.Core.Bool.{Bool}
 use lib.Dec.{eqb}
 use Rattle.octets.specs.Choice.{pick}
 pub use Rattle.answers.specs.declared.Answer.{Answer}
-pub use Rattle.answers.specs.declared.Answer.the-variants.{NotSound, WrongRing, WrongStocks, Malformed, BadField, TooEarly, Ignored, NotLive, WrongMoment, WrongShares, Full, Blocked, NotHeld, NoRoom, Done}
+pub use Rattle.answers.specs.declared.Answer.the-variants.{NotSound, WrongRing, WrongStocks, Malformed, BadField, TooEarly, UnlistedFirm, Ignored, NotLive, WrongMoment, WrongShares, Full, Blocked, NotHeld, NoRoom, Done}
 
 abbrev pub answerNumber : Answer → ℕ
 answerNumber NotSound = 10
@@ -13,6 +13,7 @@ answerNumber WrongStocks = 14  -- right after 11 (Ask 2)
 answerNumber Malformed = 2
 answerNumber (BadField at) = 3
 answerNumber TooEarly = 4
+answerNumber UnlistedFirm = 15  -- right after 4 (Ask 5)
 answerNumber Ignored = 1
 answerNumber NotLive = 5
 answerNumber WrongMoment = 7
@@ -31,6 +32,7 @@ answerPlace WrongStocks = 0
 answerPlace Malformed = 0
 answerPlace (BadField at) = at
 answerPlace TooEarly = 0
+answerPlace UnlistedFirm = 0
 answerPlace Ignored = 0
 answerPlace NotLive = 0
 answerPlace WrongMoment = 0

@@ -12,7 +12,7 @@ const SHAPE: usize = 56;
 // Where an entry has what a script sets; NOWHERE for what a kind does not have. The number of a p is its price.
 fn name_at(kind: u8) -> usize {
     match kind {
-        b's' | b'E' | b'h' | b'y' => NOWHERE,
+        b's' | b'E' | b'h' | b'y' | b'w' | b'd' | b'n' => NOWHERE,
         _ => 9,
     }
 }
@@ -59,9 +59,38 @@ fn firm_at(kind: u8) -> usize {
     if kind == b'O' { 44 } else { NOWHERE }
 }
 
+// The firm of the purge port's entries, and the symbol of a w.
+fn purged_at(kind: u8) -> usize {
+    match kind {
+        b'w' | b'd' | b'n' => 9,
+        _ => NOWHERE,
+    }
+}
+
+fn symbol_at(kind: u8) -> usize {
+    if kind == b'w' { 13 } else { NOWHERE }
+}
+
+// Texts as the numbers that their bytes spell. A script that names no firm means ABCD there.
+fn purged(run: Run) -> u64 {
+    if run.firm == b' ' {
+        return 0x41_42_43_44;
+    }
+    run.firm as u64 * 16_777_216 + 0x20_20_20
+}
+
+// All, ABC or XYZ.
+fn symbol(n: u32) -> u64 {
+    match n {
+        1 => 0x41_42_43_20_20_20_20_20,
+        2 => 0x58_59_5a_20_20_20_20_20,
+        _ => 0x20_20_20_20_20_20_20_20,
+    }
+}
+
 // Which of the shapes below is the kind's.
 fn place_of(kind: u8) -> usize
-    ensures { λ r. ⌜ r < 15 ⌝ }
+    ensures { λ r. ⌜ r < 18 ⌝ }
 {
     match kind {
         b'O' => 0,
@@ -78,7 +107,10 @@ fn place_of(kind: u8) -> usize
         b'E' => 11,
         b'h' => 12,
         b'y' => 13,
-        _ => 14,
+        b'w' => 14,
+        b'd' => 15,
+        b'n' => 16,
+        _ => 17,
     }
 }
 
@@ -104,6 +136,9 @@ s........S                                              \
 s........E                                              \
 h........ABC     H                                      \
 h........ABC     T                                      \
+w........                                               \
+d........                                               \
+n........                                               \
 Z........A                                              ";
     let mut bytes = [0u8; 56];
     let at = SHAPE * place_of(kind);
@@ -157,6 +192,8 @@ pub(crate) fn entry(run: Run, kind: u8, n: u32) -> [u8; 56] {
     set_number(&mut bytes, 1, 8, run.stamp as u64 * 1_000_000_000);
     set_number(&mut bytes, shares_at(kind), 4, n as u64);
     set_terms(&mut bytes, run, kind);
+    set_number(&mut bytes, purged_at(kind), 4, purged(run));
+    set_number(&mut bytes, symbol_at(kind), 8, symbol(n));
     spoil(&mut bytes, run);
     bytes
 }

@@ -1,6 +1,6 @@
 // Plays the paper's worked numbers, the errors that students really make, the order of answers, the places that they tell, the order of reject
-// letters, other settings, halts, and intended sizes after a self match through the host, and prints a line for each: what should happen and what
-// did. The last line counts those that agree.
+// letters, other settings, halts, intended sizes after a self match, and the purge button through the host, and prints a line for each: what should
+// happen and what did. The last line counts those that agree.
 mod answers_order;
 mod entries;
 mod errors;
@@ -9,6 +9,7 @@ mod house;
 mod houses;
 mod letters;
 mod places;
+mod purges;
 mod row;
 mod run;
 mod script;
@@ -23,6 +24,7 @@ use crate::halts::halts;
 use crate::houses::houses;
 use crate::letters::letters;
 use crate::places::places;
+use crate::purges::purges;
 use crate::row::Tally;
 use crate::sizes::sizes;
 use crate::worked::worked;
@@ -34,7 +36,8 @@ fn main() {
         b"an order: token, state, liable-executed-self-matched=open, time in force\n",
     );
     let none = Tally { tried: 0, agree: 0 };
-    let tally = sizes(halts(houses(letters(places(answers(errors(worked(none))))))));
+    let before = sizes(halts(houses(letters(places(answers(errors(worked(none))))))));
+    let tally = purges(before);
     io::print_decimal(STDOUT_FILENO, tally.agree);
     io::write_all(STDOUT_FILENO, b" of ");
     io::print_decimal(STDOUT_FILENO, tally.tried);

@@ -22,7 +22,7 @@ pub struct Run {
     pub time: u32,
     pub minimum: u32,
     pub cross: u8,
-    // the first letter of the firm
+    // the first letter of the firm; a space for the blank one, which the purge port's entries have as ABCD
     pub firm: u8,
     // two places whose bytes are spoiled
     pub spoiled: usize,
@@ -83,7 +83,7 @@ pub(crate) fn sets(letter: u8) -> bool {
         | b'k'
         | b'R'
         | b'm'
-        | b'w'
+        | b'W'
         | b'?' => true,
         _ => false,
     }
@@ -107,7 +107,7 @@ pub(crate) fn set(before: Run, letter: u8, n: u32) -> Run {
         b'C' => {
             run.cross = b'C';
         }
-        b'w' => {
+        b'W' => {
             run.firm = (64 + n % 26) as u8;
         }
         b'?' => {

@@ -4,17 +4,18 @@
 // =         from here on a replace names its token twice; before, it brings B
 // C         the next orders are for the closing cross
 // $ t m     the next prices, times in force and minimums; 10,000, 99,999 and 0 before the first
-// w         the next orders are for the firm so numbered; before, the firm is blank
+// W         the next entries are for the firm so numbered; before, the firm is blank, and in w d n ABCD
 // ?         the byte at this place of the next entries is spoiled, beside the one at the place named before
 // @         the next stamps, in seconds; 34,200 before the first
 // <         so many bytes are cut off the next entries
 // R         the ring has so many bytes
 // F V       a fresh table with so many firms; one with this threshold
-// T N       a byte of the table is damaged; the next reference is the one past the last
+// T N P     a byte of the table is damaged; the next reference is the one past the last; header byte 3 has this value
 // L J       the list has another stock in ABC's place; its state is damaged
 // k g       what is held stays held; what is held is read and released
 //
-// Every other letter is an entry of that kind with so many shares (E: the day ends; h: ABC is halted; y: it trades again). Unless k was said the ring is emptied before it.
+// Every other letter is an entry of that kind with so many shares (E: the day ends; h: ABC is halted; y: it trades again; w1 and w2 are about ABC
+// and XYZ, w about all). Unless k was said the ring is emptied before it.
 use crate::entries::entry;
 use crate::entries::size;
 use crate::house::open;
@@ -124,6 +125,9 @@ fn prepared(table: &mut [u8], stocks: &mut [u8], letter: u8, n: u32) {
         b'N' => {
             put(table, 16, &PAST_THE_LAST);
         }
+        b'P' => {
+            put(table, 3, &[(n % 256) as u8]);
+        }
         b'F' => {
             open(table, 1_000_000, n);
         }
@@ -136,7 +140,7 @@ fn prepared(table: &mut [u8], stocks: &mut [u8], letter: u8, n: u32) {
 
 fn prepares(letter: u8) -> bool {
     match letter {
-        b' ' | b'T' | b'N' | b'F' | b'V' | b'L' | b'J' => true,
+        b' ' | b'T' | b'N' | b'P' | b'F' | b'V' | b'L' | b'J' => true,
         _ => false,
     }
 }

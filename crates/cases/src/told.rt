@@ -174,6 +174,16 @@ fn halted(stocks: &[u8], out: &mut [u8], from: usize) -> usize {
     from
 }
 
+// The bits of the blocked firms, where any is set.
+fn blocked(table: &[u8], out: &mut [u8], from: usize) -> usize {
+    let bits = letter(table, 3);
+    if bits == 0 {
+        return from;
+    }
+    let at = put(out, from, b", byte 3 is ");
+    put_number(out, at, bits as u64)
+}
+
 pub(crate) fn told(table: &[u8], ring: &[u8], stocks: &[u8], run: Run, out: &mut [u8]) -> usize {
     if run.last.answer != 0 {
         return refused(run, out);
@@ -187,5 +197,6 @@ pub(crate) fn told(table: &[u8], ring: &[u8], stocks: &[u8], run: Run, out: &mut
     let c = intact(table, run, out, b);
     let d = order(table, b'B', out, c);
     let e = halted(stocks, out, d);
-    behind(part(&sent, 0, before), out, e)
+    let f = blocked(table, out, e);
+    behind(part(&sent, 0, before), out, f)
 }

@@ -7,13 +7,14 @@ use lib.ListN.{length, take, getD}
 use lib.Dec.{leb, ltb, eqb}
 use Rattle.octets.specs.Bytes.{part}
 use Rattle.octets.specs.Choice.{pick}
-use Rattle.wire.specs.Messages.{messageLength}
+use Rattle.wire.specs.Messages.{lengthFor, messageLength}
+use Rattle.purge.specs.Purge.{requests}
 use Rattle.tape.specs.Kinds.{entryLength}
 pub use Rattle.feed.specs.declared.Feed.{Feed}
 pub use Rattle.feed.specs.declared.held.Held.{Held}
 pub use Rattle.feed.specs.declared.refill.Refilled.{Refilled}
 pub use Rattle.feed.specs.declared.pieces.Pieces.{Pieces}
-pub use Rattle.feed.specs.declared.pieces.Pieces.the-variants.{Entries, Messages}
+pub use Rattle.feed.specs.declared.pieces.Pieces.the-variants.{Entries, Messages, Requests}
 
 -- ---- what is held
 
@@ -40,6 +41,7 @@ pub record Refills (before : List ℕ) (h : Held) (after : List ℕ) (r : Refill
 abbrev pub lengthBy : Pieces → ℕ → ℕ
 lengthBy Entries letter = entryLength letter
 lengthBy Messages letter = messageLength false letter
+lengthBy Requests letter = lengthFor requests letter
 
 -- how long the whole piece at the front is; 0 where there is none
 unfoldable pub whole : Pieces → List ℕ → ℕ

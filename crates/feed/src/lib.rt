@@ -1,4 +1,4 @@
-// A tape's entries, or a stream's messages, handed out one by one as they come in on standard input.
+// A tape's entries, or the messages of a stream or of the purge port, handed out one by one as they come in on standard input.
 //
 // A program lends a buffer and asks for the next piece. It gets it as soon as its last byte is there: what has come in is taken at once, and
 // only where no whole piece is held does a read wait for more. No function asks anything of its caller.

@@ -1,13 +1,15 @@
 // What an input is cut into: the first byte of a piece says how long it is.
 ghost use mathlib.Core.Path.{_≡_};
 ghost use Rattle.feed.specs.Feed.{lengthBy, whole, waits};
+use purge::request_length;
 use tape::kinds::entry_length;
 use wire::messages::message_length;
 
-// The entries of a tape, or the messages of an outbound stream.
+// The entries of a tape, the messages of an outbound stream, or those that a client sends to the purge port.
 pub enum Pieces {
     Entries,
     Messages,
+    Requests,
 }
 
 // 0 for a letter that begins none.
@@ -17,6 +19,7 @@ fn length_by(pieces: Pieces, letter: u8) -> usize
     match pieces {
         Pieces::Entries => entry_length(letter),
         Pieces::Messages => message_length(false, letter),
+        Pieces::Requests => request_length(letter),
     }
 }
 

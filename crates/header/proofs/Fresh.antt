@@ -1,5 +1,6 @@
 -- The header of a fresh table holds, over any number of records. Assumes nothing.
 use Rattle.octets.proofs.Proving.{Bool, List, [], _*_, _++_, _+_, _-_, _<_, _∙_, _∷_, _≡_, _≤_, ap, arith, decLt, drop, drop-at, drop-drop, le-ltb, leb, leb-true, length, length-append, length-replicate, length-take-le, lt-ltb, ltb, min, refl, suc, sym, take, true, zero, ℕ}
+use lib.Pow.{pow-pos}
 use Rattle.octets.specs.Choice.{pick}
 use Rattle.octets.specs.Bytes.{part, zeros, joined, allAre}
 use Rattle.octets.proofs.Laws.{take-zeros, drop-zeros}
@@ -67,6 +68,7 @@ module _ (s : Settings) (w : WholeSettings s) (good : settingsGood s ≡ true) w
       record {
         day = omega arith;
         count = omega (arith, most);
+        blocked = omega arith;
         used = omega arith;
         last = omega arith;
         reference = omega arith;
@@ -89,4 +91,5 @@ module _ (s : Settings) (w : WholeSettings s) (good : settingsGood s ≡ true) w
         highest-threshold = leb-true _ _ (every-at tests 1 good);
         shaped = every-at tests 4 good;
         rest = rest-listed (s .firms) (s .count) (w .places) (w .codes) most;
+        blocked = pow-pos (s .count);
       }

@@ -1,21 +1,20 @@
 -- What judging the header comes to: the tests that the code makes, all of them and no others. Assumes nothing.
-use Rattle.octets.proofs.Proving.{Bool, List, [], _&&_, _∷_, _≡_, and-assoc, and-true, leb, leb·zero, ltb, ℕ}
+use Rattle.octets.proofs.Proving.{Bool, List, [], _∙_, _∷_, _≡_, _≤_, and-assoc, and-true, leb, leb-true, leb·zero, ltb, sym, true, ℕ}
 use Rattle.octets.specs.Choice.{every}
 use Rattle.octets.specs.Bytes.{part, numberOf, allAre}
+use Rattle.octets.proofs.Below.{every-at}
 use Rattle.wire.specs.Limits.{stampEnd}
 use Rattle.wire.specs.Layout.{badPlace, firstBadPlace, noBadPlace}
 use Rattle.wire.proofs.NoneBad.{none-of-both, none-unless, zero-bytes}
 use Rattle.header.specs.Limits.{dayClosed, fewestFirms, mostFirms, firstReference, endOfReferences, lowestThreshold, highestThreshold}
 use Rattle.header.specs.Header.{headerOf, headerLayout}
-use Rattle.header.specs.Firms.{firmsShaped, restBlank}
-use Rattle.header.specs.Sound.{headerSound}
 
 abbrev pub numberTests : List ℕ → List Bool
 numberTests s =
     leb (numberOf (part s 0 1)) dayClosed
     ∷ leb fewestFirms (numberOf (part s 1 1))
     ∷ leb (numberOf (part s 1 1)) mostFirms
-    ∷ allAre 0 (part s 2 2)
+    ∷ allAre 0 (part s 2 1)
     ∷ ltb (numberOf (part s 8 8)) stampEnd
     ∷ leb firstReference (numberOf (part s 16 8))
     ∷ leb (numberOf (part s 16 8)) endOfReferences
@@ -28,6 +27,7 @@ pub number-tests : (s : List ℕ) → noBadPlace headerLayout s ≡ every (numbe
 unfolding noBadPlace firstBadPlace badPlace
 number-tests s = simp (none-of-both, none-unless, zero-bytes, leb·zero, and-true, and-assoc)
 
-pub header-parts : (s : List ℕ) (n : ℕ) → headerSound s n ≡ (noBadPlace headerLayout s && (leb (headerOf s .used) n && firmsShaped (headerOf s .firms) (headerOf s .count) && restBlank (headerOf s .firms) (headerOf s .count)))
-unfolding headerSound
-header-parts s n = simp (and-assoc, and-true)
+-- a count that was judged is at most eight, before the firms are looked at
+pub count-judged : (s : List ℕ) → noBadPlace headerLayout s ≡ true → headerOf s .count ≤ mostFirms
+unfolding headerOf
+count-judged s good = leb-true _ _ (every-at (numberTests s) 2 (sym (number-tests s) ∙ good))

@@ -5,4 +5,5 @@ pub mod Runs
 pub mod Holds
 pub mod Listed
 pub mod Fresh
+pub mod Blocked
 pub mod Unique

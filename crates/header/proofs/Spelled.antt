@@ -9,10 +9,10 @@ use Rattle.header.specs.Header.{Header, headerLayout, headerFields, head
 use Rattle.header.specs.Whole.{WholeHeader}
 
 abbrev headerValues : Header → Values headerLayout
-headerValues h = (h .day, (h .count, (tt, (h .used, (h .last, (h .reference, (h .threshold .0, (h .firms, (tt, tt)))))))))
+headerValues h = (h .day, (h .count, (tt, (h .blocked, (h .used, (h .last, (h .reference, (h .threshold .0, (h .firms, (tt, tt))))))))))
 
 header-fits : (h : Header) → WholeHeader h → Fits headerLayout (headerValues h)
-header-fits h w = (w .day, (w .count, (tt, (w .used, (w .last, (w .reference, (w .threshold, (w .firms, (tt, tt)))))))))
+header-fits h w = (w .day, (w .count, (tt, (w .blocked, (w .used, (w .last, (w .reference, (w .threshold, (w .firms, (tt, tt))))))))))
 
 header-unbroken : unbroken 0 headerSize headerLayout ≡ true
 unfolding unbroken

@@ -4,8 +4,10 @@ use Rattle.header.proofs as header
 
 pub firms-unique : Settled header.firms.firm_at.Reads.Post and Settled header.firms.is_blank.Reads.Post
     and Settled header.firms.meant_firm.Reads.Post and Settled header.firms.is_listed.Reads.Post
-    and Settled header.firms.firms_shaped.Reads.Post
+    and Settled header.firms.firms_shaped.Reads.Post and Settled header.firms.firm_place.Reads.Post
+    and Settled header.firms.firm_blocked.Reads.Post and Settled header.firms.blocked_with.Reads.Post
 firms-unique = (λ κs a. settled) also (λ κs a. settled) also (λ κs a. settled) also (λ κs a. settled) also (λ κs a. settled)
+    also (λ κs a. settled) also (λ κs a. settled) also (λ κs a. settled)
 
 pub values-unique : Settled header.header_of.Reads.Post and SettledLent header.put_header.Reads.Post
     and Settled header.is_open_day.Reads.Post

@@ -12,7 +12,8 @@ abbrev pub headerLayout : List Field
 headerLayout =
     rangeAt 0 1 dayBefore dayClosed  -- day: 0 before, 1 open, 2 closed
     ∷ rangeAt 1 1 fewestFirms mostFirms  -- firm count
-    ∷ gapAt 2 2  -- zero
+    ∷ gapAt 2 1  -- zero
+    ∷ wholeAt 3 1  -- blocked firms, a bit each (Ask 5)
     ∷ wholeAt 4 4  -- used records
     ∷ stampAt 8  -- last stamp
     ∷ rangeAt 16 8 firstReference endOfReferences  -- next reference
@@ -23,10 +24,11 @@ headerLayout =
 
 -- the fields, in their order, as a header
 abbrev pub headerFields : FromFields headerLayout Header
-headerFields day count _ used last reference threshold firms _ =
+headerFields day count _ blocked used last reference threshold firms _ =
     record {
       day = day;
       count = count;
+      blocked = blocked;
       used = used;
       last = last;
       reference = reference;
@@ -40,7 +42,7 @@ headerOf s = reading headerLayout s headerFields
 unfoldable pub headerBytes : Header → List ℕ
 headerBytes h =
     laid headerLayout
-    (h .day) (h .count) tt (h .used) (h .last) (h .reference) (h .threshold .0) (h .firms) tt
+    (h .day) (h .count) tt (h .blocked) (h .used) (h .last) (h .reference) (h .threshold .0) (h .firms) tt
 
 unfoldable pub isOpenDay : Header → Bool
 isOpenDay h = eqb (h .day) dayOpen

@@ -8,17 +8,17 @@ use Rattle.header.specs.Header.{Header, headerLayout}
 
 -- bytes 0 to 15: the day, and what has happened in it
 abbrev pub momentFields : List Field
-momentFields = take 5 headerLayout
+momentFields = take 6 headerLayout
 
 abbrev pub momentValues : Header → Values momentFields
-momentValues h = h .day & h .count & tt & h .used & h .last & tt
+momentValues h = h .day & h .count & tt & h .blocked & h .used & h .last & tt
 
 unfoldable pub moments : Header → List ℕ
 moments h = spellFields momentFields (momentValues h)
 
 -- bytes 16 to 63
 abbrev pub standingFields : List Field
-standingFields = drop 5 headerLayout
+standingFields = drop 6 headerLayout
 
 abbrev pub standingValues : Header → Values standingFields
 standingValues h = h .reference & h .threshold .0 & h .firms & tt & tt

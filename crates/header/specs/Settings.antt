@@ -31,12 +31,13 @@ settingsGood s =
     ∷ firmsShaped (listedFirms (s .firms) (s .count)) (s .count)
     ∷ [])
 
--- day 0, used 0, stamp 0, reference 1, these settings
+-- day 0, no firm blocked (Ask 5), used 0, stamp 0, reference 1, these settings
 unfoldable pub freshHeader : Settings → Header
 freshHeader s =
     record {
       day = dayBefore;
       count = s .count;
+      blocked = 0;
       used = 0;
       last = 0;
       reference = firstReference;

@@ -1,8 +1,8 @@
 -- When the header holds (Table and outbox, Header and Sound).
-use Prim.Native.Nat.{ℕ}
+use Prim.Native.Nat.{ℕ, _^_}
 use mathlib.Core.Bool.{Bool}
 use mathlib.Core.List.{List, [], _∷_}
-use lib.Dec.{leb}
+use lib.Dec.{leb, ltb}
 use Rattle.octets.specs.Choice.{every}
 use Rattle.wire.specs.Layout.{noBadPlace}
 use Rattle.header.specs.Header.{headerLayout, headerOf}
@@ -17,4 +17,5 @@ headerSound s n =
     ∷ leb (h .used) n
     ∷ firmsShaped (h .firms) (h .count)
     ∷ restBlank (h .firms) (h .count)
+    ∷ ltb (h .blocked) (2 ^ h .count)  -- no bit past the firm count (Ask 5)
     ∷ [])

@@ -11,6 +11,7 @@ use Rattle.header.specs.Settings.{Firm, Settings}
 pub record WholeHeader (h : Header) : Type 0 where
   pub day : h .day < 256 ^ 1
   pub count : h .count < 256 ^ 1
+  pub blocked : h .blocked < 256 ^ 1
   pub used : h .used < 256 ^ 4
   pub last : h .last < 256 ^ 8
   pub reference : h .reference < 256 ^ 8

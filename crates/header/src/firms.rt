@@ -1,8 +1,11 @@
 // The firms of a header: eight places of four bytes in a row, of which the first so many are listed.
 ghost use mathlib.Core.Path.{_≡_};
 ghost use Rattle.octets.specs.Bytes.{same};
-ghost use Rattle.header.specs.Firms.{firmAt, isBlank, meantFirm, isListed, firmsShaped, restBlank};
+ghost use Rattle.header.specs.Firms.{firmAt, isBlank, meantFirm, isListed, firmPlace, firmBlocked, blockedWith, firmsShaped, restBlank};
 use crate::Header;
+use octets::bits::bit_of;
+use octets::bits::with_bit;
+use octets::least;
 use wire::text::is_shaped;
 
 pub const MOST_FIRMS: usize = 8;
@@ -43,19 +46,47 @@ fn same_firm(a: [u8; 4], b: [u8; 4]) -> bool
     (a[0] == b[0]) & (a[1] == b[1]) & (a[2] == b[2]) & (a[3] == b[3])
 }
 
-pub fn is_listed(h: Header, firm: [u8; 4]) -> bool
-    ensures { λ r. ⌜ r ≡ isListed h firm ⌝ }
+// The first place that holds the firm; the count where none does.
+pub fn firm_place(h: Header, firm: [u8; 4]) -> usize
+    ensures { λ r. ⌜ r ≡ firmPlace h firm ⌝ }
 {
     let firms = h.firms;
     let count = h.count as usize;
     let mut k: usize = 0;
     while k < count {
         if same_firm(firm_at(firms, k), firm) {
-            return true;
+            return k;
         }
         k += 1;
     }
+    count
+}
+
+pub fn is_listed(h: Header, firm: [u8; 4]) -> bool
+    ensures { λ r. ⌜ r ≡ isListed h firm ⌝ }
+{
+    firm_place(h, firm) < h.count as usize
+}
+
+// A place past the eighth has no bit, so the firm there is not blocked.
+pub fn firm_blocked(h: Header, firm: [u8; 4]) -> bool
+    ensures { λ r. ⌜ r ≡ firmBlocked h firm ⌝ }
+{
+    let place = firm_place(h, firm);
+    if place < MOST_FIRMS {
+        return bit_of(h.blocked, place);
+    }
     false
+}
+
+// The header's blocked firms, with the one at this place blocked or not, as said.
+pub fn blocked_with(h: Header, place: usize, on: bool) -> u8
+    ensures { λ r. ⌜ r ≡ blockedWith h place on ⌝ }
+{
+    if place < least(h.count as usize, MOST_FIRMS) {
+        return with_bit(h.blocked, place, on);
+    }
+    h.blocked
 }
 
 pub fn firms_shaped(firms: [u8; 32], count: usize) -> bool

@@ -31,6 +31,8 @@ pub struct Header {
     pub day: u8,
     // how many firms are listed
     pub count: u8,
+    // the blocked firms, a bit each, the lowest for the first
+    pub blocked: u8,
     // how many records are used
     pub used: u32,
     // the last stamp
@@ -51,6 +53,7 @@ pub fn header_of(s: &[u8]) -> Header
     Header {
         day: octets::byte_at(s, 0),
         count: octets::byte_at(s, 1),
+        blocked: octets::byte_at(s, 3),
         used: octets::be32(s, 4),
         last: octets::be64(s, 8),
         reference: octets::be64(s, 16),
@@ -66,7 +69,8 @@ fn put_moments(s: &mut [u8], h: Header)
 {
     octets::put_byte(s, 0, h.day);
     octets::put_byte(s, 1, h.count);
-    octets::put_number(s, 2, 2, 0);
+    octets::put_byte(s, 2, 0);
+    octets::put_byte(s, 3, h.blocked);
     octets::put_be32(s, 4, h.used);
     octets::put_be64(s, 8, h.last);
 }

@@ -66,7 +66,7 @@ pub fn settings_good(settings: Settings) -> bool
         & firms_shaped(listed_firms(firms, count), count)
 }
 
-// Day 0, nothing used, stamp 0, the first reference, and these settings.
+// Day 0, no firm blocked, nothing used, stamp 0, the first reference, and these settings.
 pub fn fresh_header(settings: Settings) -> Header
     ensures { λ r. ⌜ r ≡ freshHeader settings ⌝ }
 {
@@ -76,6 +76,7 @@ pub fn fresh_header(settings: Settings) -> Header
     Header {
         day: BEFORE,
         count: settings.count,
+        blocked: 0,
         used: 0,
         last: 0,
         reference: FIRST_REFERENCE,

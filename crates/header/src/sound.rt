@@ -16,9 +16,10 @@ use crate::header_of;
 use crate::settings::HIGHEST_THRESHOLD;
 use crate::settings::LOWEST_THRESHOLD;
 use octets::are_zero;
+use octets::bits::none_from;
 use wire::places::STAMP_END;
 
-// What the layout of the header judges: all but the firms, and the used records against the table's length.
+// What the layout of the header judges: all but the firms and their bits, and the used records against the table's length.
 fn numbers_good(s: &[u8], h: Header) -> bool
     requires { ⌜ (length (now s) ≡ headerSize) × (h ≡ headerOf (now s)) ⌝ }
     ensures { λ r. ⌜ r ≡ noBadPlace headerLayout (now (s .entry)) ⌝ }
@@ -28,7 +29,7 @@ fn numbers_good(s: &[u8], h: Header) -> bool
     (h.day <= CLOSED)
         & (1 <= count)
         & (count <= MOST_FIRMS)
-        & are_zero(s, 2, 2)
+        & are_zero(s, 2, 1)
         & (h.last < STAMP_END)
         & (FIRST_REFERENCE <= h.reference)
         & (h.reference <= END_OF_REFERENCES)
@@ -37,7 +38,8 @@ fn numbers_good(s: &[u8], h: Header) -> bool
         & are_zero(s, 60, 4)
 }
 
-// The firms are asked behind the numbers, which hold the count to eight, and not in a row with them: measured, it is faster.
+// The firms are asked behind the numbers, which hold the count to eight, and not in a row with them: measured, it is faster. Their bits need the count
+// held so.
 pub fn header_sound(s: &[u8], records: usize) -> bool
     requires { ⌜ length (now s) ≡ headerSize ⌝ }
     ensures { λ r. ⌜ r ≡ headerSound (now (s .entry)) records ⌝ }
@@ -46,7 +48,10 @@ pub fn header_sound(s: &[u8], records: usize) -> bool
     let firms = h.firms;
     let count = h.count as usize;
     if numbers_good(s, h) {
-        (h.used as usize <= records) & firms_shaped(firms, count) & rest_blank(firms, count)
+        (h.used as usize <= records)
+            & firms_shaped(firms, count)
+            & rest_blank(firms, count)
+            & none_from(h.blocked, count)
     } else {
         false
     }

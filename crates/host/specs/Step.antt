@@ -2,24 +2,28 @@
 -- the answer numbers, and nothing is written before the last of them (Answer numbers, in order of checking).
 use Prim.Native.Nat.{ℕ, _+_}
 use mathlib.Core.Path.{_≡_}
-use mathlib.Core.Bool.{Bool, not, _&&_, _||_}
+use mathlib.Core.Bool.{Bool, true, false, not, _&&_, _||_}
 use mathlib.Core.List.{List}
 use lib.ListN.{length}
 use lib.Dec.{leb, ltb, eqb}
 use Rattle.octets.specs.Choice.{pick, firstOf_, _⇒_⨾_}
 use Rattle.answers.specs.Answer.{isDone}
 use Rattle.orders.specs.Order.{isUsed}
+use Rattle.orders.specs.Wanted.{isWanted}
 use Rattle.header.specs.Limits.{endOfReferences}
-use Rattle.table.specs.Table.{sound, header, recordsIn, usedIn, placeOf, orderFrom, orderNamed, storeOrder, storeHeader}
+use Rattle.header.specs.Firms.{blockedWith}
+use Rattle.table.specs.Table.{sound, header, recordsIn, usedIn, placeOf, orderFrom, orderNamed, firstSuch, storeOrder, storeHeader}
 use Rattle.tape.specs.Kinds.{kindOf}
 use Rattle.tape.specs.declared.kinds.Kind.{Kind}
-use Rattle.tape.specs.declared.kinds.Kind.the-variants.{Enters, Replaces, Cancels, Modifies, Executes, BookCancels, SelfMatches, Prioritises, TurnsLate, EndsCross, TellsDay, SetsStock, Unknown}
-use Rattle.tape.specs.Entries.{entryAnswer, namesOrder, stampOf, tokenOf, enterOf, replaceOf, cancelOf, modifyOf, executionOf, bookCancelOf, selfMatchOf, priorityOf, systemOf, stockStateOf}
+use Rattle.tape.specs.declared.kinds.Kind.the-variants.{Enters, Replaces, Cancels, Modifies, Executes, BookCancels, SelfMatches, Prioritises, TurnsLate, EndsCross, TellsDay, SetsStock, Purges, Disables, Enables, Unknown}
+use Rattle.tape.specs.Entries.{entryAnswer, namesOrder, stampOf, tokenOf, enterOf, replaceOf, cancelOf, modifyOf, executionOf, bookCancelOf, selfMatchOf, priorityOf, systemOf, stockStateOf, purges, purgeOf, blockingOf}
 use Rattle.rules.specs.Plan.{refused}
 use Rattle.rules.specs.Enter.{enterRule}
 use Rattle.rules.specs.Replace.{replaceRule}
 use Rattle.rules.specs.Cancel.{cancelRule}
 use Rattle.rules.specs.Modify.{modifyRule}
+use Rattle.risk.specs.Purge.{wantedBy, purgeRule}
+use Rattle.risk.specs.Blocking.{blockingRule}
 use Rattle.market.specs.Taken.{executionRule, bookCancelRule, selfMatchRule}
 use Rattle.market.specs.Priority.{priorityRule}
 use Rattle.market.specs.Cross.{lateRule, crossDoneRule}
@@ -28,7 +32,7 @@ use Rattle.market.specs.Halt.{haltRule}
 use Rattle.notices.specs.Notices.{message}
 use Rattle.stocks.specs.Stocks.{listGood, standingIn, withState}
 use Rattle.outbox.specs.Outbox.{ringGood, freeBytes, ringWith, marksWith}
-use Rattle.host.specs.Types.{Answer, Done, NotSound, WrongRing, WrongStocks, Malformed, TooEarly, Full, Blocked, Marks, Header, Order, Begins, Nothing, Day, StockState, Plan, Decision}
+use Rattle.host.specs.Types.{Answer, Done, NotSound, WrongRing, WrongStocks, Malformed, TooEarly, Full, Blocked, Marks, Header, Order, Begins, Nothing, Day, Block, StockState, Plan, Decision}
 
 -- what entries read and change: the table, and the list of stocks (Ask 2)
 pub record Books : Type 0 where
@@ -47,11 +51,13 @@ pub record Outcome : Type 0 where
 
 -- ---- the rules: from the header, the orders that the entry names and the entry to a decision
 
--- where the order stands that the entry names first; behind the used records if it names none
+-- where the order stands that the entry names first: by a token, or in w as the first that is live, not late and of that firm and symbol (Ask 5);
+-- behind the used records if it names none
 unfoldable pub namedPlace : List ℕ → List ℕ → ℕ
 namedPlace t s =
     firstOf
     namesOrder s ⇒ placeOf t (tokenOf s)
+    ⨾ purges s ⇒ firstSuch t (isWanted (wantedBy (purgeOf s)))
     ⨾ usedIn t
 
 -- `named` is the order that the entry names, `found` what a Replace's own token means so far, l the list of stocks: a rule is told how its stock
@@ -69,6 +75,9 @@ decideBy TurnsLate h named found l s = lateRule h named
 decideBy EndsCross h named found l s = crossDoneRule named
 decideBy TellsDay h named found l s = systemRule h (systemOf s)
 decideBy SetsStock h named found l s = haltRule (standingIn l (stockStateOf s .symbol)) (stockStateOf s)
+decideBy Purges h named found l s = purgeRule h named (purgeOf s)
+decideBy Disables h named found l s = blockingRule h (blockingOf s) true
+decideBy Enables h named found l s = blockingRule h (blockingOf s) false
 decideBy Unknown h named found l s = refused Malformed
 
 unfoldable pub decide : Books → List ℕ → Decision
@@ -88,6 +97,13 @@ storeIf t i o = pick (isUsed o) (storeOrder t i o) t
 abbrev pub dayAfter : ℕ → Begins → ℕ
 dayAfter day Nothing = day
 dayAfter day (Day begun) = begun
+dayAfter day (Block place on) = day
+
+-- d and n set and clear the firm's bit (Ask 5)
+abbrev pub blockedAfter : Header → Begins → ℕ
+blockedAfter h Nothing = h .blocked
+blockedAfter h (Day begun) = h .blocked
+blockedAfter h (Block place on) = blockedWith h place on
 
 -- a done entry's stamp becomes the last stamp
 unfoldable pub headerAfter : Header → ℕ → Plan → Header
@@ -95,6 +111,7 @@ headerAfter h stamp p =
     record {
       day = dayAfter (h .day) (p .begins);
       count = h .count;
+      blocked = blockedAfter h (p .begins);
       used = h .used + oneIf (isUsed (p .added));
       last = stamp;
       reference = h .reference + oneIf (p .numbered);
@@ -124,7 +141,7 @@ worldAfter w place stamp p =
       marks = marksWith (w .marks) (length (message stamp p));
     }
 
--- ---- what an entry comes to: answers 2 3 4 1 5 7 6 8, from the table, the list and the entry alone. The ring is not looked at, which is why
+-- ---- what an entry comes to: answers 2 3 4 15 1 5 7 6 8, from the table, the list and the entry alone. The ring is not looked at, which is why
 -- an entry that is blocked comes to the same when it is offered again
 
 -- 8: a token must be stored and no record is free, or a reference is needed and the next is 10^18

@@ -1,5 +1,6 @@
 // Writing a plan down, in the table and in the list of stocks: no other function of a step changes them.
 use header::Header;
+use header::firms::blocked_with;
 use orders::order::Order;
 use orders::order::is_used;
 use rules::plan::Begins;
@@ -15,7 +16,7 @@ ghost use Rattle.header.specs.Limits.{endOfReferences};
 ghost use Rattle.stocks.specs.Stocks.{listGood};
 ghost use Rattle.table.specs.Limits.{mostRecords};
 ghost use Rattle.table.specs.Table.{header};
-ghost use Rattle.host.specs.Step.{oneIf, dayAfter, storeIf, setIf, headerAfter, committed};
+ghost use Rattle.host.specs.Step.{oneIf, dayAfter, blockedAfter, storeIf, setIf, headerAfter, committed};
 
 // An order of state 0 stands for none, and nothing is stored.
 fn store_if(table: &mut [u8], i: usize, o: Order)
@@ -33,6 +34,18 @@ fn day_after(day: u8, begins: Begins) -> u8
     match begins {
         Begins::Nothing => day,
         Begins::Day(begun) => begun,
+        Begins::Block(_, _) => day,
+    }
+}
+
+// The blocked firms' bits, with that of a firm that is blocked or let in again.
+fn blocked_after(h: Header, begins: Begins) -> u8
+    ensures { λ r. ⌜ r ≡ blockedAfter h begins ⌝ }
+{
+    match begins {
+        Begins::Nothing => h.blocked,
+        Begins::Day(_) => h.blocked,
+        Begins::Block(place, on) => blocked_with(h, place, on),
     }
 }
 
@@ -68,11 +81,13 @@ fn header_after(h: Header, stamp: u64, plan: Plan) -> Header
     let firms = h.firms;
     let threshold = h.threshold;
     let day = day_after(h.day, begins);
+    let blocked = blocked_after(h, begins);
     let used = counted(h.used, is_used(added));
     let reference = numbered(h.reference, plan.numbered);
     Header {
         day,
         count: h.count,
+        blocked,
         used,
         last: stamp,
         reference,

@@ -13,6 +13,8 @@ use market::taken::execution;
 use market::taken::self_match;
 use orders::order::Order;
 use orders::order::is_used;
+use risk::blocking::block;
+use risk::purging::purge;
 use rules::cancel::cancel;
 use rules::enter::enter;
 use rules::modify::modify;
@@ -25,12 +27,14 @@ use table::find::order_from;
 use table::places::records_in;
 use tape::kinds::Kind;
 use tape::kinds::kind_of;
+use tape::reading::blocking_of;
 use tape::reading::book_cancel_of;
 use tape::reading::cancel_of;
 use tape::reading::enter_of;
 use tape::reading::execution_of;
 use tape::reading::modify_of;
 use tape::reading::priority_of;
+use tape::reading::purge_of;
 use tape::reading::replace_of;
 use tape::reading::self_match_of;
 use tape::reading::stock_state_of;
@@ -80,6 +84,9 @@ fn decide(table: &[u8], stocks: &[u8], entry: &[u8], h: Header, named: Order) ->
         Kind::EndsCross => cross_done(named),
         Kind::TellsDay => system(h, system_of(entry)),
         Kind::SetsStock => decide_halt(stocks, entry),
+        Kind::Purges => purge(h, named, purge_of(entry)),
+        Kind::Disables => block(h, blocking_of(entry), true),
+        Kind::Enables => block(h, blocking_of(entry), false),
         Kind::Unknown => refused(Answer::Malformed),
     }
 }

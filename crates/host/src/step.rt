@@ -9,15 +9,19 @@ use notices::message;
 use outbox::marks::Marks;
 use outbox::marks::ring_good;
 use outbox::put::append;
+use risk::purging::wanted_by;
 use rules::plan::Decision;
 use rules::plan::Plan;
 use stocks::judge::list_good;
 use table::find::find;
 use table::places::header;
 use table::places::used;
+use table::search::find_wanted;
 use table::sound::sound;
 use tape::judging::judge;
 use tape::reading::names_order;
+use tape::reading::purge_of;
+use tape::reading::purges;
 use tape::reading::stamp_of;
 use tape::reading::token_of;
 ghost use mathlib.Core.Path.{_≡_};
@@ -30,7 +34,7 @@ ghost use Rattle.outbox.specs.Outbox.{ringGood, freeBytes, ringWith, marksWith}
 ghost use Rattle.stocks.specs.Stocks.{listGood};
 ghost use Rattle.table.specs.Limits.{mostRecords};
 ghost use Rattle.table.specs.Table.{sound, header};
-ghost use Rattle.tape.specs.Entries.{entryAnswer};
+ghost use Rattle.tape.specs.Entries.{wellFormed, entryAnswer};
 ghost use Rattle.host.specs.Step.{step, offer, settle, carriedOut, namedPlace, world, Leaves};
 
 // What a step answers, with the marks after it.
@@ -109,12 +113,16 @@ fn take(table: &mut [u8], ring: &mut [u8], marks: Marks, stocks: &mut [u8], entr
     settle(table, ring, marks, stocks, h, place, stamp, d)
 }
 
-// Where the order stands that the entry names; behind the used records for s and h, which name none.
+// Where the order stands that the entry names, in w by a firm and a symbol; behind the used records for s h d n, which name none.
 fn named_place(table: &[u8], entry: &[u8]) -> usize
+    requires { ⌜ wellFormed (now entry) ≡ true ⌝ }
     ensures { λ r. ⌜ r ≡ namedPlace (now (table .entry)) (now (entry .entry)) ⌝ }
 {
     if names_order(entry) {
         return find(table, token_of(entry));
+    }
+    if purges(entry) {
+        return find_wanted(table, wanted_by(purge_of(entry)));
     }
     used(table)
 }

@@ -18,7 +18,7 @@ use Rattle.table.proofs.Soundness.{Sound}
 use Rattle.table.proofs.Finding.{found as found-there}
 use Rattle.tape.specs.Behind.{behindOf, judgedFields}
 use Rattle.tape.specs.Kinds.{kindOf}
-use Rattle.tape.specs.Entries.{wellFormed, badPlaceOf, entryAnswer, namesOrder, stampOf, tokenOf, messageIn, enterOf, replaceOf, cancelOf, modifyOf, executionOf, bookCancelOf, selfMatchOf, priorityOf, systemOf, stockStateOf}
+use Rattle.tape.specs.Entries.{wellFormed, badPlaceOf, entryAnswer, namesOrder, stampOf, tokenOf, messageIn, enterOf, replaceOf, cancelOf, modifyOf, executionOf, bookCancelOf, selfMatchOf, priorityOf, systemOf, stockStateOf, purgeOf, blockingOf}
 use Rattle.tape.proofs.Formed.{formed, long-as, judged}
 use Rattle.inbound.specs.Inbound.{enterOrderOf, replaceOrderOf}
 use Rattle.stocks.specs.Stocks.{standingIn}
@@ -28,9 +28,9 @@ use Rattle.rules.specs.Replace.{replaceRule}
 use Rattle.host.specs.Step.{Books, namedPlace, decideBy, decide, noRecordFree, noReferenceLeft, withinLimits, comesTo}
 use Rattle.host.proofs.Offers.{judged-good}
 use Rattle.laws.specs.Blocked.{isBlocked}
-use Rattle.laws.proofs.Types.{Answer, BadField, Done, Full, Malformed, TooEarly, Order, Header, Decision, Kind, Enters, Replaces, Cancels, Modifies, Executes, BookCancels, SelfMatches, Prioritises, TurnsLate, EndsCross, TellsDay, SetsStock, Unknown, StockStanding}
+use Rattle.laws.proofs.Types.{Answer, BadField, Done, Full, Malformed, TooEarly, Order, Header, Decision, Kind, Enters, Replaces, Cancels, Modifies, Executes, BookCancels, SelfMatches, Prioritises, TurnsLate, EndsCross, TellsDay, SetsStock, Purges, Disables, Enables, Unknown, StockStanding}
 use Rattle.laws.proofs.Shapes.{ofRules, Orderly, Keeps, refused-keeps}
-use Rattle.laws.proofs.Rules.{Sane, enter-keeps, replace-keeps, cancel-keeps, modify-keeps, execution-keeps, book-cancel-keeps, self-match-keeps, priority-keeps, late-keeps, cross-done-keeps, system-keeps, halt-orderly}
+use Rattle.laws.proofs.Rules.{Sane, enter-keeps, replace-keeps, cancel-keeps, modify-keeps, execution-keeps, book-cancel-keeps, self-match-keeps, priority-keeps, late-keeps, cross-done-keeps, purge-keeps, blocking-rule-keeps, system-keeps, halt-orderly}
 use Rattle.laws.proofs.Given.{sane-from, live-there, from-is, holds}
 
 -- ---- the guards that were passed
@@ -140,6 +140,9 @@ isHalt TurnsLate = inr (λ q. let z : _≡_ {A = ℕ} 0 1 = cc in absurd (omega 
 isHalt EndsCross = inr (λ q. let z : _≡_ {A = ℕ} 0 1 = cc in absurd (omega arith))
 isHalt TellsDay = inr (λ q. let z : _≡_ {A = ℕ} 0 1 = cc in absurd (omega arith))
 isHalt SetsStock = inl refl
+isHalt Purges = inr (λ q. let z : _≡_ {A = ℕ} 0 1 = cc in absurd (omega arith))
+isHalt Disables = inr (λ q. let z : _≡_ {A = ℕ} 0 1 = cc in absurd (omega arith))
+isHalt Enables = inr (λ q. let z : _≡_ {A = ℕ} 0 1 = cc in absurd (omega arith))
 isHalt Unknown = inr (λ q. let z : _≡_ {A = ℕ} 0 1 = cc in absurd (omega arith))
 
 -- of the order that the table t has under that token
@@ -236,6 +239,9 @@ module _ (books : Books) (s : List ℕ) (ok : Sound (books .table)) (legal : ent
   by-kind EndsCross n e = other (cross-done-keeps named (orderNamed t blank) blank sane)
   by-kind TellsDay n e = other (system-keeps h (systemOf s) named (orderNamed t blank) blank)
   by-kind SetsStock n e = absurd (n refl)
+  by-kind Purges n e = other (purge-keeps named (orderNamed t blank) blank sane h (purgeOf s))
+  by-kind Disables n e = other (blocking-rule-keeps h (blockingOf s) true named (orderNamed t blank) blank)
+  by-kind Enables n e = other (blocking-rule-keeps h (blockingOf s) false named (orderNamed t blank) blank)
   by-kind Unknown n e = other (refused-keeps Malformed refl)
 
   halted-kept : Kept t named (decideBy SetsStock h named found (books .stocks) s)

@@ -13,3 +13,4 @@ pub mod Sent
 pub mod Steps
 pub mod Halted
 pub mod Canceled
+pub mod Purged

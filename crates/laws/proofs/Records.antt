@@ -7,10 +7,10 @@ use Rattle.wire.specs.Shares.{total}
 use Rattle.header.specs.Limits.{headerSize}
 use Rattle.orders.specs.Limits.{mostShares}
 use Rattle.orders.specs.Counts.{gone, newCounts}
-use Rattle.orders.specs.Order.{rejectedOrder, isUsed}
+use Rattle.orders.specs.Order.{orderOf, noOrder, rejectedOrder, isUsed}
 use Rattle.orders.proofs.Standing.{Live, Dead, OrderGood}
-use Rattle.table.specs.Table.{HasRecord, header, orderAt, sound, storeOrder}
-use Rattle.table.proofs.Stored.{order-read-back, other-orders, header-read-back, orders-stay}
+use Rattle.table.specs.Table.{HasRecord, recordBytes, header, orderAt, sound, storeOrder}
+use Rattle.table.proofs.Stored.{order-read-back, other-records, header-read-back, records-stay}
 use Rattle.tape.specs.Entries.{stampOf}
 use Rattle.host.specs.Step.{Books, oneIf, storeIf, headerAfter, committed, comesTo}
 use Rattle.laws.proofs.Types.{Decision, Plan, Order, Header}
@@ -44,6 +44,10 @@ face o =
       previous = o .details .previous;
     }
 
+-- of a record's bytes
+abbrev faceOf : List ℕ → Face
+faceOf r = face (orderOf r)
+
 abbrev pub faceAt : List ℕ → ℕ → Face
 faceAt t i = face (orderAt t i)
 
@@ -71,10 +75,10 @@ module _ (t : List ℕ) (i : ℕ) (o : Order) (there : HasRecord t i) (fit : Fit
       ∙ ap face (order-read-back t i (clipped o) there (whole-clipped o (fit .shaped)))
       ∙ face-clipped o (fit .good)
 
-  pub other-faces : (j : ℕ) → j ≢ i → faceAt (storeOrder t i o) j ≡ faceAt t j
-  other-faces j apart =
-      ap (λ (u : List ℕ). faceAt u j) (sym (stored-clipped t i o))
-      ∙ ap face (other-orders t i (clipped o) there (whole-clipped o (fit .shaped)) j apart)
+  pub other-bytes : (j : ℕ) → j ≢ i → recordBytes (storeOrder t i o) j ≡ recordBytes t j
+  other-bytes j apart =
+      ap (λ (u : List ℕ). recordBytes u j) (sym (stored-clipped t i o))
+      ∙ other-records t i (clipped o) there (whole-clipped o (fit .shaped)) j apart
 
 -- ---- a plan written down
 
@@ -110,13 +114,17 @@ module _ (books : Books) (s : List ℕ) (ok : sound (books .table) ≡ true) (do
   long : headerSize ≤ length end
   long = omega (arith, kept₂ books s ok done .long, S books s ok done .size .long)
 
-  pub left-used : header left .used ≡ used + oneIf (isUsed (plan .added))
-  unfolding committed headerAfter
-  left-used = ap (λ (q : Header). q .used) (header-read-back end (after books s ok done) long (whole books s ok done))
+  pub left-header : header left ≡ headerAfter (header t) (stampOf s) plan
+  unfolding committed
+  left-header = header-read-back end (after books s ok done) long (whole books s ok done)
 
-  left-faces : (i : ℕ) → faceAt left i ≡ faceAt end i
-  unfolding committed headerAfter
-  left-faces i = ap face (orders-stay end (after books s ok done) long (whole books s ok done) i)
+  pub left-used : header left .used ≡ used + oneIf (isUsed (plan .added))
+  unfolding headerAfter
+  left-used = ap (λ (q : Header). q .used) left-header
+
+  left-bytes : (i : ℕ) → recordBytes left i ≡ recordBytes end i
+  unfolding committed
+  left-bytes i = records-stay end (after books s ok done) long (whole books s ok done) i
 
   -- the named order's record is the only one that the first store touches
   pub changed-face : isUsed (plan .changed) ≡ true → faceAt mid at ≡ face (plan .changed)
@@ -125,35 +133,54 @@ module _ (books : Books) (s : List ℕ) (ok : sound (books .table) ≡ true) (do
       let f = changed-fit books s ok done (change-of (K books s ok done .1 .1 .shape)) u in
       rw u (stored-face t at (plan .changed) (f .1) (f .0))
 
-  pub unchanged-face : (i : ℕ) → i ≢ at → faceAt mid i ≡ faceAt t i
+  unchanged-record : (i : ℕ) → i ≢ at → recordBytes mid i ≡ recordBytes t i
   unfolding storeIf
-  unchanged-face i apart = by (isUsed (plan .changed)) refl
+  unchanged-record i apart = by (isUsed (plan .changed)) refl
     where
-      by : (b : Bool) → isUsed (plan .changed) ≡ b → faceAt mid i ≡ faceAt t i
+      by : (b : Bool) → isUsed (plan .changed) ≡ b → recordBytes mid i ≡ recordBytes t i
       by true u =
           let f = changed-fit books s ok done (change-of (K books s ok done .1 .1 .shape)) u in
-          rw u (other-faces t at (plan .changed) (f .1) (f .0) i apart)
+          rw u (other-bytes t at (plan .changed) (f .1) (f .0) i apart)
       by false u = rw u
 
-  pub unchanged-faces : isUsed (plan .changed) ≡ false → (i : ℕ) → faceAt mid i ≡ faceAt t i
+  unchanged-records : isUsed (plan .changed) ≡ false → (i : ℕ) → recordBytes mid i ≡ recordBytes t i
   unfolding storeIf
-  unchanged-faces u i = rw u
+  unchanged-records u i = rw u
+
+  pub unchanged-face : (i : ℕ) → i ≢ at → faceAt mid i ≡ faceAt t i
+  unfolding orderAt
+  unchanged-face i apart = ap faceOf (unchanged-record i apart)
+
+  pub unchanged-faces : isUsed (plan .changed) ≡ false → (i : ℕ) → faceAt mid i ≡ faceAt t i
+  unfolding orderAt
+  unchanged-faces u i = ap faceOf (unchanged-records u i)
 
   -- and the one behind the used ones the only one that the second touches
   fit : isUsed (plan .added) ≡ true → Fit (plan .added)
   fit u = added-fit (plan .added) (K books s ok done .1 .0) (addition-of (K books s ok done .1 .1 .shape)) u
 
   pub added-face : isUsed (plan .added) ≡ true → faceAt left used ≡ face (plan .added)
+  unfolding storeIf orderAt
+  added-face u = ap faceOf (left-bytes used) ∙ rw u (stored-face mid used (plan .added) (there-in-one books s ok done u) (fit u))
+
+  earlier-record : (i : ℕ) → i < used → recordBytes left i ≡ recordBytes mid i
   unfolding storeIf
-  added-face u = left-faces used ∙ rw u (stored-face mid used (plan .added) (there-in-one books s ok done u) (fit u))
+  earlier-record i l = left-bytes i ∙ by (isUsed (plan .added)) refl
+    where
+      by : (b : Bool) → isUsed (plan .added) ≡ b → recordBytes end i ≡ recordBytes mid i
+      by true u = rw u (other-bytes mid used (plan .added) (there-in-one books s ok done u) (fit u) i (λ e. omega (arith, e)))
+      by false u = rw u
 
   pub earlier-face : (i : ℕ) → i < used → faceAt left i ≡ faceAt mid i
-  unfolding storeIf
-  earlier-face i l = left-faces i ∙ by (isUsed (plan .added)) refl
-    where
-      by : (b : Bool) → isUsed (plan .added) ≡ b → faceAt end i ≡ faceAt mid i
-      by true u = rw u (other-faces mid used (plan .added) (there-in-one books s ok done u) (fit u) i (λ e. omega (arith, e)))
-      by false u = rw u
+  unfolding orderAt
+  earlier-face i l = ap faceOf (earlier-record i l)
+
+  -- every byte of another record is as it was, and where no order changes, of every record
+  pub other-record : (i : ℕ) → i < used → i ≢ at → recordBytes left i ≡ recordBytes t i
+  other-record i l apart = earlier-record i l ∙ unchanged-record i apart
+
+  pub same-records : plan .changed ≡ noOrder → (i : ℕ) → i < used → recordBytes left i ≡ recordBytes t i
+  same-records e i l = earlier-record i l ∙ unchanged-records (ap isUsed e ∙ none-unused) i
 
   -- so what a done entry keeps of the order that it changes, from its face before to its face after, it keeps of every record
   pub each-record : (R : Face → Face → Type 0) → ((f : Face) → R f f) → (Changed named (plan .notice) (plan .changed) → R (face named) (face (plan .changed)))

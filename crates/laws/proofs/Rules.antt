@@ -1,17 +1,17 @@
 -- Every decision of the rules keeps what it should, guard by guard: first what clients send, then what the market, the book and the clock
--- tell. Assumes nothing.
+-- tell, and what a risk officer asks for. Assumes nothing.
 use Rattle.octets.proofs.Proving.{Bool, List, _&&_, _||_, _∙_, _≡_, _≤_, ap, arith, eqb, false, guard, inl, length, not, not-false, or-left, or-right, refl, true, ℕ}
 use Rattle.octets.specs.Bytes.{zeros}
 use Rattle.octets.specs.Choice.{pick, among}
 use Rattle.octets.proofs.Laws.{length-part}
 use Rattle.answers.specs.Answer.{isDone}
-use Rattle.wire.specs.Letters.{closed, firmNotListed, invalidStock, stockHalted, notInThisCross, invalidDisplay, invalidPrice, aboveThreshold, invalidMinimum, userRequested, crosses, noCross, startOfDay, endOfDay}
+use Rattle.wire.specs.Letters.{closed, firmNotListed, allRejected, invalidStock, stockHalted, notInThisCross, invalidDisplay, invalidPrice, aboveThreshold, invalidMinimum, userRequested, crosses, noCross, startOfDay, endOfDay}
 use Rattle.wire.specs.Shares.{total, _equals_, _grownBy_}
 use Rattle.wire.specs.Limits.{tokenSize}
 use Rattle.stocks.specs.Standing.{isListed as isListedStock, isHalted}
 use Rattle.header.specs.Limits.{dayBefore, dayOpen, dayClosed, highestThreshold}
 use Rattle.header.specs.Header.{isOpenDay}
-use Rattle.header.specs.Firms.{firmAt, isBlank, isListed, meantFirm}
+use Rattle.header.specs.Firms.{firmAt, isBlank, isListed, firmPlace, firmBlocked, meantFirm}
 use Rattle.orders.specs.Counts.{gone, openShares, newCounts, cut, withLiable, executing, selfMatching}
 use Rattle.orders.specs.Flags.{clearFlag}
 use Rattle.orders.specs.Order.{isLive, isUsed, _is_, withFlags, withSide, withDetails, marked, cleared}
@@ -23,6 +23,9 @@ use Rattle.rules.specs.Replace.{badDetails, replacementOrder, canceledWhole, re
 use Rattle.rules.specs.Cancel.{newOpen, cancelIgnored, decrement, canceledOrder, lateCancel, cancelRule}
 use Rattle.rules.specs.Modify.{modifyIgnored, modifiedOrder, modifyRule}
 use Rattle.rules.proofs.Heard.{cancel-live, cancel-smaller}
+use Rattle.risk.specs.Listed.{ofListed}
+use Rattle.risk.specs.Purge.{purgeRule}
+use Rattle.risk.specs.Blocking.{blockingRule}
 use Rattle.market.specs.Guards.{marketAnswer}
 use Rattle.market.specs.Taken.{sharesRight, executionRule, bookCancelRule, selfMatchRule}
 use Rattle.market.specs.Priority.{prioritisedOrder, priorityRule}
@@ -31,9 +34,9 @@ use Rattle.market.specs.Day.{systemRule}
 use Rattle.market.specs.Halt.{haltRule}
 use Rattle.market.proofs.Room.{passed, room}
 use Rattle.laws.specs.Cancels.{executionsPlusOpen}
-use Rattle.laws.proofs.Types.{Answer, Ignored, NotLive, WrongMoment, Order, Header, Decision, Fault, EnterOrder, ReplaceOrder, CancelOrder, ModifyOrder, Execution, BookCancel, SelfMatch, Priority, System, StockState, StockStanding, Canceled, Modified, Replaced, Executed, AiqCancelled}
+use Rattle.laws.proofs.Types.{Answer, Ignored, NotLive, UnlistedFirm, WrongMoment, Order, Header, Decision, Fault, EnterOrder, ReplaceOrder, CancelOrder, ModifyOrder, Execution, BookCancel, SelfMatch, Priority, System, StockState, Purge, Blocking, StockStanding, Canceled, Modified, Replaced, Executed, AiqCancelled}
 use Rattle.laws.proofs.Tests.{modify-live, modify-above, modify-within, fair-shares, good-shares, new-open}
-use Rattle.laws.proofs.Shapes.{Shaped, Born, ofRules, Orderly, Keeps, setting-orderly, refused-keeps, beginning-keeps, changing-keeps, renumbering-keeps, accepting-keeps, rejecting-keeps, replacing-keeps, uncounted, recounted, ended, ended-dead}
+use Rattle.laws.proofs.Shapes.{Shaped, Born, ofRules, Orderly, Keeps, setting-orderly, refused-keeps, beginning-keeps, blocking-keeps, changing-keeps, renumbering-keeps, accepting-keeps, rejecting-keeps, replacing-keeps, uncounted, recounted, ended, ended-dead}
 
 -- All that the rules ask of an order: of live ones only, because no rule changes or counts with another
 pub record Sane (o : Order) : Type 0 where
@@ -87,6 +90,7 @@ module _ (h : Header) (e : EnterOrder) (found : Order) (stock : StockStanding) (
       guard (Keeps found found (e .token)) (isUsed found) (λ _. refused-keeps Ignored refl) λ free.
       guard WithFault (not (isOpenDay h)) (λ _. rejecting-keeps free closed) λ _.
       guard WithFault (not (isListed h firm)) (λ _. rejecting-keeps free firmNotListed) λ _.
+      guard WithFault (firmBlocked h firm) (λ _. rejecting-keeps free allRejected) λ _.
       guard WithFault (badStock (e .stock) stock) (λ _. rejecting-keeps free invalidStock) λ _.
       guard WithFault (isHalted stock) (λ _. rejecting-keeps free stockHalted) λ _.
       guard WithFault (not (among crosses (e .cross))) (λ _. rejecting-keeps free notInThisCross) λ _.
@@ -204,6 +208,21 @@ module _ (o found : Order) (t : List ℕ) (sane : Sane o) where
       changing-keeps tt
       (ended o alive lives (sane .shaped) (clearFlag (clearFlag (o .flags) Late) Pending) (Canceled (openShares (o .shares)) userRequested) refl)) λ _.
       changing-keeps tt (uncounted o alive lives (sane .shaped) _ refl)
+
+  -- ---- of a listed firm
+
+  pub purge-keeps : (h : Header) (e : Purge) → Good (purgeRule h o e)
+  unfolding purgeRule ofListed canceledWhole withFlags
+  purge-keeps h e =
+      guard Good (not (isListed h (e .firm))) (λ _. refused-keeps UnlistedFirm refl) λ _.
+      guard Good (not (isLive o)) (λ _. refused-keeps Ignored refl) λ heard.
+      let alive = not-false _ heard in
+      changing-keeps tt (ended o alive (sane .lives alive) (sane .shaped) (o .flags) (Canceled (openShares (o .shares)) userRequested) refl)
+
+pub blocking-rule-keeps : (h : Header) (e : Blocking) (on : Bool) (o found : Order) (t : List ℕ) → Keeps o found t (blockingRule h e on)
+unfolding blockingRule ofListed
+blocking-rule-keeps h e on o found t =
+    guard (Keeps o found t) (not (isListed h (e .firm))) (λ _. refused-keeps UnlistedFirm refl) λ _. blocking-keeps (firmPlace h (e .firm)) on
 
 pub system-keeps : (h : Header) (e : System) (o found : Order) (t : List ℕ) → Keeps o found t (systemRule h e)
 unfolding systemRule

@@ -11,10 +11,10 @@ use Rattle.orders.specs.Counts.{gone, openShares, cut, withLiable}
 use Rattle.orders.specs.Order.{isLive, isUsed, noOrder, rejectedOrder, deadIfSpent, withFlags, withSide, killed}
 use Rattle.orders.specs.declared.counts.Counts.{Counts}
 use Rattle.orders.proofs.Standing.{Live}
-use Rattle.rules.specs.Plan.{noStock, refused, changing, renumbering, accepting, replacing as replacingBy, rejecting, beginning, setting}
+use Rattle.rules.specs.Plan.{noStock, refused, changing, renumbering, accepting, replacing as replacingBy, rejecting, beginning, blocking, setting}
 use Rattle.laws.specs.Blocked.{isBlocked}
 use Rattle.laws.specs.Cancels.{executionsPlusOpen}
-use Rattle.laws.proofs.Types.{Answer, Order, Plan, StockState, Decision, Begins, Nothing, Day, Notice, Silent, SystemEvent, Accepted, Replaced, Canceled, AiqCancelled, Executed, Rejected, CancelPending, CancelReject, PriorityUpdate, Modified}
+use Rattle.laws.proofs.Types.{Answer, Order, Plan, StockState, Decision, Begins, Nothing, Day, Block, Notice, Silent, SystemEvent, Accepted, Replaced, Canceled, AiqCancelled, Executed, Rejected, CancelPending, CancelReject, PriorityUpdate, Modified}
 use Rattle.laws.proofs.Standing.{Standing, live-state, counted}
 
 -- ---- what a plan does to the order that the entry names, and what it adds
@@ -107,6 +107,7 @@ pub data Shape (named found : Order) (token : List ℕ) (p : Plan) : Type 0 wher
 abbrev pub Begun : Begins → Type 0
 Begun Nothing = Unit {0}
 Begun (Day day) = day ≤ dayClosed
+Begun (Block place on) = Unit {0}
 
 -- the answers of the rules' own: not 3, which judging the entry gives, and not 9: that is asked of the ring alone, which the rules never see
 abbrev pub ofRules : Answer → Bool
@@ -131,6 +132,10 @@ module _ {named found : Order} {token : List ℕ} where
   pub beginning-keeps : (day event : ℕ) → day ≤ dayClosed → Keeps named found token (beginning day event)
   unfolding beginning
   beginning-keeps day event known = record { orderly = record { shape = nobody refl refl refl; begins = known; own = refl }; quiet = refl }
+
+  pub blocking-keeps : (place : ℕ) (on : Bool) → Keeps named found token (blocking place on)
+  unfolding blocking
+  blocking-keeps place on = record { orderly = record { shape = nobody refl refl refl; begins = tt; own = refl }; quiet = refl }
 
   pub changing-keeps : {o : Order} {notice : Notice} → Older (subject notice) → Changed named notice o → Keeps named found token (changing o notice)
   unfolding changing

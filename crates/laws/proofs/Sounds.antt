@@ -1,6 +1,6 @@
 -- A step that is done keeps a sound table sound: the named order's record, the record behind the used ones, and the header are each written
 -- with something good, and nothing else is touched. Assumes nothing.
-use Rattle.octets.proofs.Proving.{Bool, List, _&&_, _+_, _<_, _∙_, _≡_, _≢_, _≤_, _⊎_, ap, arith, eqb, eqb-false, false, false≢true, inl, inr, leb, leb-false, length, refl, subst, sym, true, ℕ}
+use Rattle.octets.proofs.Proving.{Bool, List, _&&_, _+_, _<_, _^_, _∙_, _≡_, _≢_, _≤_, _⊎_, ap, arith, eqb, eqb-false, false, false≢true, inl, inr, leb, leb-false, length, refl, subst, sym, true, ℕ}
 use Rattle.answers.specs.Answer.{isDone}
 use Rattle.wire.specs.Letters.{live, dead}
 use Rattle.wire.specs.Shares.{total}
@@ -8,6 +8,7 @@ use Rattle.wire.proofs.NoneBad.{legalToken}
 use Rattle.header.specs.Limits.{endOfReferences, dayClosed}
 use Rattle.header.specs.Whole.{WholeHeader}
 use Rattle.header.proofs.Holds.{HeaderGood}
+use Rattle.header.proofs.Blocked.{blocked-lt, in-byte}
 use Rattle.orders.specs.Counts.{openShares}
 use Rattle.orders.specs.Order.{orderOf, rejectedOrder, isUsed}
 use Rattle.orders.specs.Sound.{recordSound}
@@ -17,9 +18,9 @@ use Rattle.table.proofs.Soundness.{Sound, of-sound}
 use Rattle.table.proofs.Stored.{order-length, header-stays}
 use Rattle.table.proofs.Keeps.{order-keeps, records-after, same-records, same-size, header-keeps}
 use Rattle.tape.specs.Entries.{stampOf}
-use Rattle.host.specs.Step.{Books, oneIf, namedPlace, storeIf, dayAfter, headerAfter, committed, noRecordFree, noReferenceLeft, decide, comesTo}
+use Rattle.host.specs.Step.{Books, oneIf, namedPlace, storeIf, dayAfter, blockedAfter, headerAfter, committed, noRecordFree, noReferenceLeft, decide, comesTo}
 use Rattle.laws.specs.Records.{Paper, EveryRecord}
-use Rattle.laws.proofs.Types.{Decision, Plan, Order, Header, Begins, Nothing, Day}
+use Rattle.laws.proofs.Types.{Decision, Plan, Order, Header, Begins, Nothing, Day, Block}
 use Rattle.laws.proofs.Standing.{Standing}
 use Rattle.laws.proofs.Shapes.{Shaped, Change, unchanged, changed, Addition, nothing, rejected, born, Begun, change-of, addition-of}
 use Rattle.laws.proofs.Clipped.{clipped, stored-clipped, whole-clipped, good-clipped}
@@ -181,6 +182,17 @@ module _ (books : Books) (s : List ℕ) (ok : sound (books .table) ≡ true) (do
       by : (b : Begins) → Begun b → dayAfter (h .day) b ≤ dayClosed
       by Nothing g = S .head .day
       by (Day day) g = g
+      by (Block k on) g = S .head .day
+
+  -- no bit past the firm count
+  blocked-good : after .blocked < 2 ^ h .count
+  unfolding headerAfter
+  blocked-good = by (p .begins)
+    where
+      by : (b : Begins) → blockedAfter h b < 2 ^ h .count
+      by Nothing = S .head .blocked
+      by (Day day) = S .head .blocked
+      by (Block k on) = blocked-lt h k on (S .head .blocked)
 
   used-good : after .used ≤ recordsIn t
   unfolding headerAfter
@@ -213,6 +225,7 @@ module _ (books : Books) (s : List ℕ) (ok : sound (books .table) ≡ true) (do
         lowest-threshold = s₀ .lowest-threshold;
         highest-threshold = s₀ .highest-threshold;
         shaped = s₀ .shaped;
+        blocked = blocked-good;
         rest = s₀ .rest;
       }
 
@@ -223,6 +236,7 @@ module _ (books : Books) (s : List ℕ) (ok : sound (books .table) ≡ true) (do
       record {
         day = omega (arith, g .day);
         count = omega (arith, g .most-firms);
+        blocked = in-byte after (g .most-firms) (g .blocked);
         used = omega (arith, g .used, S .size .most);
         last = omega (arith, g .last);
         reference = omega (arith, g .highest-reference);

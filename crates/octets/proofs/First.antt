@@ -1,7 +1,8 @@
 -- The laws of the first number below a bound of which a test holds: what it is, that there is no other, and what a loop knows that looks at one
 -- number after the other. Assumes nothing.
-use Rattle.octets.proofs.Proving.{Bool, _+_, _-_, _<_, _∙_, _≡_, _≤_, ap₂, arith, decLt, false, false≢true, refl, sub-zero, subst, suc, sym, true, zero, ℕ, ℕ-discrete}
-use Rattle.octets.specs.Choice.{pick, firstFrom, firstBelow}
+use Rattle.octets.proofs.Proving.{Bool, _+_, _-_, _<_, _∙_, _≡_, _≤_, ap₂, arith, decLt, false, false≢true, le-ltb, lt-ltb, ltb, refl, sub-zero, subst, suc, sym, true, zero, ℕ, ℕ-discrete}
+use Rattle.octets.specs.Choice.{pick, someBelow, firstFrom, firstBelow}
+use Rattle.octets.proofs.Below.{some-none, some-true}
 
 -- i is below the bound and passes, and none before it does
 pub record First (n : ℕ) (p : ℕ → Bool) (i : ℕ) : Type 0 where
@@ -70,6 +71,14 @@ module _ (p : ℕ → Bool) where
           | yes l ↦ absurd (false≢true (sym (none (firstBelow n p) l) ∙ whole .holds (omega arith)))
           | no g ↦ omega (arith, first-within)
         ]
+
+-- there is one just where some number passes
+pub some-first : (p : ℕ → Bool) (n : ℕ) → someBelow n p ≡ ltb (firstBelow n p) n
+some-first p n =
+    elim (decLt (firstBelow n p) n) [
+      | yes l ↦ some-true p n (firstBelow n p) l (first-is p n l .holds) ∙ sym (lt-ltb (firstBelow n p) n l)
+      | no g ↦ some-none p n (first-none p n (omega arith)) ∙ sym (le-ltb (firstBelow n p) n (omega arith))
+    ]
 
 -- tests that agree
 pub first-same : (p q : ℕ → Bool) (n : ℕ) → ((j : ℕ) → p j ≡ q j) → firstBelow n p ≡ firstBelow n q

@@ -23,3 +23,6 @@ record-unique = (λ κs a. settled) also (λ κs a. lent-first)
 
 pub sound-unique : Settled orders.sound.record_sound.Reads.Post
 sound-unique κs a = settled
+
+pub wanted-unique : Settled orders.wanted.is_wanted.Reads.Post
+wanted-unique κs a = settled

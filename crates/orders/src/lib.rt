@@ -4,3 +4,4 @@ pub mod flags;
 pub mod order;
 pub mod record;
 pub mod sound;
+pub mod wanted;

@@ -29,3 +29,7 @@ release-unique κs a z z′ e e′ p p′ = one-pair p p′
 -- the number, the buffer and the place
 pub echo-unique : (κs : Lfts 3) (a : _) → Settles {X = (ℕ × ℕ) × List ℕ} (port.pq_echo.Reads.Post κs a) (λ z e. ((z, now (e .1 .1 .1 .0)), now (e .1 .1 .0)))
 echo-unique κs a z z′ e e′ p p′ = ap₂ (λ (l : ℕ × ℕ) (r : List ℕ). (l, r)) (one-pair (p .0) (p′ .0)) (one-result (p .1) (p′ .1))
+
+-- the same, of an entry that is made
+pub entry-unique : (κs : Lfts 3) (a : _) → Settles {X = (ℕ × ℕ) × List ℕ} (port.pq_entry.Reads.Post κs a) (λ z e. ((z, now (e .1 .1 .1 .1 .0)), now (e .1 .1 .1 .0)))
+entry-unique κs a z z′ e e′ p p′ = ap₂ (λ (l : ℕ × ℕ) (r : List ℕ). (l, r)) (one-pair (p .0) (p′ .0)) (one-result (p .1) (p′ .1))

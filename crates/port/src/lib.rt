@@ -1,4 +1,4 @@
-// The door for C: seven functions, five of them over lent memory. Each hands its arguments to a proved function and an answer's number back, and asks
+// The door for C: eight functions, six of them over lent memory. Each hands its arguments to a proved function and an answer's number back, and asks
 // nothing that a C caller could break but that its pointers and lengths are true. Where bytes are judged, the place that the answer tells is written
 // by every call.
 mod settings;
@@ -10,6 +10,7 @@ use host::step::step;
 use outbox::marks::Marks;
 use outbox::read::read;
 use outbox::release::release;
+use stamping::stamped;
 use table::fresh::fresh;
 use tape::kinds::entry_length;
 use wire::messages::message_length;
@@ -22,6 +23,7 @@ ghost use Rattle.table.specs.Fresh.{freshAnswer, freshTable};
 ghost use Rattle.outbox.specs.Outbox.{readRun, releaseAnswer, releaseMarks};
 ghost use Rattle.echo.specs.Echo.{messageAnswer, messageEchoed};
 ghost use Rattle.host.specs.Step.{step, world};
+ghost use Rattle.stamping.specs.Stamping.{stampAnswer, stampAfter};
 ghost use Rattle.tape.specs.Kinds.{entryLength};
 ghost use Rattle.wire.specs.Messages.{messageLength};
 ghost use Rattle.port.specs.Door.{marks, settingsGiven, Left};
@@ -104,6 +106,23 @@ pub extern "C" fn pq_echo(inbound: u8, message: &[u8], out: &mut [u8], place: &m
     let echoed = echo(inbound != 0, message, out);
     *place = answers::place(echoed);
     number(echoed)
+}
+
+// The entry of a message and its time, of the purge port's where `purge` is not 0, at the front of `entry`. The place of the answer is written, too.
+#[no_mangle]
+pub extern "C" fn pq_entry(
+    purge: u8,
+    stamp: u64,
+    message: &[u8],
+    entry: &mut [u8],
+    place: &mut usize,
+) -> u8
+    ensures { λ r. ⌜ (r ≡ answerNumber (stampAnswer (not (eqb purge 0)) stamp (now (message .entry)) (now (entry .entry)))) × (now (place .exit) ≡ answerPlace (stampAnswer (not (eqb purge 0)) stamp (now (message .entry)) (now (entry .entry)))) ⌝ }
+    ensures { λ _. ⌜ now (entry .exit) ≡ stampAfter (not (eqb purge 0)) stamp (now (message .entry)) (now (entry .entry)) ⌝ }
+{
+    let made = stamped(purge != 0, stamp, message, entry);
+    *place = answers::place(made);
+    number(made)
 }
 
 // The length of an entry of this kind, kind byte and stamp included, so that no driver keeps a table of its own; 0 for no kind.

@@ -5,7 +5,7 @@ use mathlib.Core.List.{List}
 use lib.Dec.{eqb}
 use Rattle.octets.specs.Choice.{pick, firstOf_, _⇒_⨾_, among}
 use Rattle.octets.specs.Bytes.{zeros}
-use Rattle.wire.specs.Letters.{live, closed, firmNotListed, invalidStock, stockHalted, notInThisCross, invalidDisplay, invalidPrice, aboveThreshold, invalidMinimum, displays, crosses, capacities, imbalanceOnly, noCross, otherCapacity}
+use Rattle.wire.specs.Letters.{live, closed, firmNotListed, allRejected, invalidStock, stockHalted, notInThisCross, invalidDisplay, invalidPrice, aboveThreshold, invalidMinimum, displays, crosses, capacities, imbalanceOnly, noCross, otherCapacity}
 use Rattle.wire.specs.Limits.{tokenSize}
 use Rattle.wire.specs.Text.{shaped}
 use Rattle.wire.specs.Price.{goodPrice}
@@ -13,7 +13,7 @@ use Rattle.wire.specs.Shares.{total, removed, _exceeds_, _isBelow_, _equals_}
 use Rattle.orders.specs.Counts.{newCounts, openShares}
 use Rattle.orders.specs.Order.{isUsed}
 use Rattle.header.specs.Header.{isOpenDay}
-use Rattle.header.specs.Firms.{meantFirm, isListed}
+use Rattle.header.specs.Firms.{meantFirm, isListed, firmBlocked}
 use Rattle.stocks.specs.Standing.{isListed as isListedStock, isHalted}
 use Rattle.rules.specs.Limits.{longestTime, immediate}
 use Rattle.rules.specs.Plan.{ignored, accepting, rejecting}
@@ -52,12 +52,13 @@ faultOfNumbers h e =
 unfoldable pub badStock : List ℕ → Standing → Bool
 badStock symbol stock = not (shaped symbol && isListedStock stock)
 
--- day not open; firm not listed; stock, and then whether it is halted (Ask 2); cross not N O C; display; and then those
+-- day not open; firm not listed, and then whether it is blocked (Ask 5); stock, and then whether it is halted (Ask 2); cross not N O C; display; and then those
 unfoldable pub enterFault : Header → List ℕ → Standing → EnterOrder → Fault
 enterFault h firm stock e =
     firstOf
     not (isOpenDay h) ⇒ Letter closed  -- C
     ⨾ not (isListed h firm) ⇒ Letter firmNotListed  -- L
+    ⨾ firmBlocked h firm ⇒ Letter allRejected  -- a
     ⨾ badStock (e .stock) stock ⇒ Letter invalidStock  -- S
     ⨾ isHalted stock ⇒ Letter stockHalted  -- H
     ⨾ not (among crosses (e .cross)) ⇒ Letter notInThisCross  -- R

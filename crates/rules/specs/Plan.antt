@@ -1,5 +1,5 @@
 -- The decisions that there are: a refusal, or a plan. A plan says all that a done entry changes beside the last stamp:
---     begins    the day that begins, or Nothing
+--     begins    the day that begins, or the place of a firm and whether it is blocked from now on (Ask 5), or Nothing
 --     changed   the order that the entry names, as it is afterwards; noOrder if it stays as it is
 --     added     what the first free record holds afterwards; noOrder if it stays free
 --     numbered  whether the order that is changed or added has taken the next reference
@@ -12,7 +12,7 @@ use Rattle.answers.specs.Answer.{isDone}
 use Rattle.octets.specs.Bytes.{zeros}
 use Rattle.octets.specs.Choice.{firstOf_, _⇒_⨾_}
 use Rattle.orders.specs.Order.{noOrder, rejectedOrder}
-use Rattle.rules.specs.Types.{Order, Answer, Begins, Nothing, Day, StockState, Decision, Notice, Silent, Rejected, Accepted, Replaced, SystemEvent, Done, Ignored}
+use Rattle.rules.specs.Types.{Order, Answer, Begins, Nothing, Day, Block, StockState, Decision, Notice, Silent, Rejected, Accepted, Replaced, SystemEvent, Done, Ignored}
 
 abbrev pub noStock : StockState
 noStock = record { symbol = zeros 8; state = 0 }
@@ -64,6 +64,10 @@ rejecting token reason = decided Done Nothing noOrder (rejectedOrder token) fals
 -- System Event, sets day
 unfoldable pub beginning : ℕ → ℕ → Decision
 beginning day event = decided Done (Day day) noOrder noOrder false (SystemEvent event)
+
+-- a firm's bit, and nothing is sent (Ask 5)
+unfoldable pub blocking : ℕ → Bool → Decision
+blocking place on = decided Done (Block place on) noOrder noOrder false Silent
 
 -- a stock's state, and nothing is sent (Ask 2)
 unfoldable pub setting : StockState → Decision

@@ -24,5 +24,5 @@ pub use Rattle.rules.specs.declared.plan.Decision.{Decision}
 pub use Rattle.rules.specs.declared.plan.Notice.{Notice}
 pub use Rattle.rules.specs.declared.plan.Notice.the-variants.{Accepted, AiqCancelled, CancelPending, CancelReject, Canceled, Executed, Modified, PriorityUpdate, Rejected, Replaced, Silent, SystemEvent}
 pub use Rattle.rules.specs.declared.plan.Begins.{Begins}
-pub use Rattle.rules.specs.declared.plan.Begins.the-variants.{Nothing, Day}
+pub use Rattle.rules.specs.declared.plan.Begins.the-variants.{Nothing, Day, Block}
 pub use Rattle.rules.specs.declared.plan.Plan.{Plan}

@@ -1,7 +1,9 @@
 // O: an order is entered. The first fault, in the paper's order, is the letter of its Rejected Message.
 ghost use mathlib.Core.Path.{_≡_};
+ghost use mathlib.Core.Bool.{not};
 ghost use Rattle.octets.specs.Choice.{_⇒_⨾_};
-ghost use Rattle.wire.specs.Letters.{invalidStock, stockHalted};
+ghost use Rattle.wire.specs.Letters.{firmNotListed, allRejected, invalidStock, stockHalted};
+ghost use Rattle.header.specs.Firms.{isListed, firmBlocked};
 ghost use Rattle.stocks.specs.Standing.{isHalted};
 ghost use Rattle.rules.specs.Types.{Letter};
 ghost use Rattle.rules.specs.Enter.{badDisplay, badShares, badMinimum, faultOfNumbers, badStock, enterFault, acceptedTerms, enteredKept, enteredOrder, enterRule};
@@ -11,6 +13,7 @@ use crate::plan::refused;
 use crate::plan::rejecting;
 use answers::Answer;
 use header::Header;
+use header::firms::firm_blocked;
 use header::firms::is_listed;
 use header::firms::meant_firm;
 use header::is_open_day;
@@ -91,6 +94,14 @@ fn fault_of_numbers(h: Header, e: EnterOrder) -> Fault
     }
 }
 
+// L and a.
+fn fault_of_firm(h: Header, firm: [u8; 4], later: Fault) -> Fault
+    ensures { λ r. ⌜ r ≡ (not (isListed h firm) ⇒ Letter firmNotListed ⨾ firmBlocked h firm ⇒ Letter allRejected ⨾ later) ⌝ }
+{
+    let a = first_fault(firm_blocked(h, firm), b'a', later);
+    first_fault(!is_listed(h, firm), b'L', a)
+}
+
 // S and H.
 fn fault_of_stock(stock: [u8; 8], standing: Standing, later: Fault) -> Fault
     ensures { λ r. ⌜ r ≡ (badStock stock standing ⇒ Letter invalidStock ⨾ isHalted standing ⇒ Letter stockHalted ⨾ later) ⌝ }
@@ -111,7 +122,7 @@ fn enter_fault(h: Header, firm: [u8; 4], standing: Standing, e: EnterOrder) -> F
     );
     let r = first_fault(!is_cross(e.cross), b'R', d);
     let s = fault_of_stock(stock, standing, r);
-    let l = first_fault(!is_listed(h, firm), b'L', s);
+    let l = fault_of_firm(h, firm, s);
     first_fault(!is_open_day(h), b'C', l)
 }
 

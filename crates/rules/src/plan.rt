@@ -1,6 +1,6 @@
 // What a rule decides. The rules know neither bytes nor the ring: a plan is values only.
 ghost use mathlib.Core.Path.{_≡_};
-ghost use Rattle.rules.specs.Plan.{noStock, decided, refused, changing, renumbering, accepting, replacing, rejecting, beginning, setting};
+ghost use Rattle.rules.specs.Plan.{noStock, decided, refused, changing, renumbering, accepting, replacing, rejecting, beginning, blocking, setting};
 use answers::Answer;
 use orders::order::Order;
 use orders::order::no_order;
@@ -30,6 +30,8 @@ pub enum Begins {
     Nothing,
     // the day's number in the header from now on
     Day(u8),
+    // a firm's place in the header's list, and whether it is blocked from now on
+    Block(usize, bool),
 }
 
 // All that a done entry changes beside the last stamp. An order of state 0 stands for none, and so does a stock.
@@ -154,6 +156,21 @@ pub fn beginning(day: u8, event: u8) -> Decision
         none,
         false,
         Notice::SystemEvent(event),
+    )
+}
+
+// A firm is blocked or let in again, and nothing is told of it.
+pub fn blocking(place: usize, on: bool) -> Decision
+    ensures { λ r. ⌜ r ≡ blocking place on ⌝ }
+{
+    let none = no_order();
+    decided(
+        Answer::Done,
+        Begins::Block(place, on),
+        none,
+        none,
+        false,
+        Notice::Silent,
     )
 }
 

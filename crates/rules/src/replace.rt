@@ -67,8 +67,8 @@ fn replacement_order(h: Header, old: Order, e: ReplaceOrder, price: Price) -> Or
     }
 }
 
-// A replacement with bad details is a cancel of the whole order: its own token stays free.
-fn canceled_whole(old: Order) -> Decision
+// All that is open is canceled. A replacement with bad details comes to this, and its own token stays free; so does a purge.
+pub fn canceled_whole(old: Order) -> Decision
     ensures { λ r. ⌜ r ≡ canceledWhole old ⌝ }
 {
     let by = open_shares(old.shares);

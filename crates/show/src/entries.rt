@@ -17,12 +17,14 @@ use answers::place;
 use tape::judging::judge;
 use tape::kinds::Kind;
 use tape::kinds::kind_of;
+use tape::reading::blocking_of;
 use tape::reading::book_cancel_of;
 use tape::reading::cancel_of;
 use tape::reading::enter_of;
 use tape::reading::execution_of;
 use tape::reading::modify_of;
 use tape::reading::priority_of;
+use tape::reading::purge_of;
 use tape::reading::replace_of;
 use tape::reading::self_match_of;
 use tape::reading::stamp_of;
@@ -64,6 +66,9 @@ fn show_legal(s: &[u8]) -> bool {
         Kind::EndsCross => (s.len() == 23) && show_cross_done(s),
         Kind::TellsDay => (s.len() == 10) && show_system(s),
         Kind::SetsStock => (s.len() == 18) && show_stock_state(s),
+        Kind::Purges => (s.len() == 21) && show_purge(s),
+        Kind::Disables => (s.len() == 13) && show_blocking(b"Disable Order Entry ", s),
+        Kind::Enables => (s.len() == 13) && show_blocking(b"Enable Order Entry ", s),
         Kind::Unknown => true,
     }
 }
@@ -198,5 +203,28 @@ fn show_stock_state(s: &[u8]) -> bool
     say_stamp(b"Stock State ", stamp_of(s));
     say_stock(symbol);
     say_letter(b" state ", m.state);
+    end_line()
+}
+
+fn show_purge(s: &[u8]) -> bool
+    requires { ⌜ length (now s) ≡ 21 ⌝ }
+{
+    let m = purge_of(s);
+    let firm = m.firm;
+    let symbol = m.symbol;
+    say_stamp(b"Purge ", stamp_of(s));
+    say_firm(firm);
+    say_stock(symbol);
+    end_line()
+}
+
+// d and n differ in their names alone.
+fn show_blocking(name: &[u8], s: &[u8]) -> bool
+    requires { ⌜ length (now s) ≡ 13 ⌝ }
+{
+    let m = blocking_of(s);
+    let firm = m.firm;
+    say_stamp(name, stamp_of(s));
+    say_firm(firm);
     end_line()
 }

@@ -1,15 +1,17 @@
-// Prints a raw outbound stream from standard input, or by the word `tape` a tape, as one readable line a message. What is no message, and all that
-// follows it, is counted at the end.
+// Prints a raw outbound stream from standard input, by the word `tape` a tape, or by the word `purge` what clients sent to the purge port, as one
+// readable line a message. What is no message, and all that follows it, is counted at the end.
 //
 // Each line is written before the next read waits. Where nobody reads standard output any longer the system ends the program; where it is full or
 // closed the program says so on standard error and stops.
 mod bad;
 mod entries;
+mod requests;
 mod stream;
 mod words;
 
 ghost use Prim.Native.Nat.{_-_, _≤_};
 use crate::entries::show_entry;
+use crate::requests::show_request;
 use crate::stream::show_message;
 use crate::words::end_line;
 use crate::words::say_number;
@@ -26,6 +28,7 @@ fn show_piece(pieces: Pieces, s: &[u8]) -> bool {
     match pieces {
         Pieces::Entries => show_entry(s),
         Pieces::Messages => show_message(s),
+        Pieces::Requests => show_request(s),
     }
 }
 
@@ -60,11 +63,11 @@ fn show_all(pieces: Pieces, buffer: &mut [u8]) {
     }
 }
 
-// Whether the first word is `tape`.
-fn asked_for_tape() -> bool {
+// Whether the first word is this one.
+fn asked_for(name: &[u8]) -> bool {
     let mut word = [0u8; 16];
     let n = os::arg(1, &mut word);
-    check::same(&word[..n], b"tape")
+    check::same(&word[..n], name)
 }
 
 fn main() {
@@ -74,9 +77,13 @@ fn main() {
         show_all(Pieces::Messages, &mut buffer);
         return;
     }
-    if asked_for_tape() & (words == 2) {
+    if asked_for(b"tape") & (words == 2) {
         show_all(Pieces::Entries, &mut buffer);
         return;
     }
-    io::write_all(STDERR_FILENO, b"show: the one word is tape\n");
+    if asked_for(b"purge") & (words == 2) {
+        show_all(Pieces::Requests, &mut buffer);
+        return;
+    }
+    io::write_all(STDERR_FILENO, b"show: the one word is tape or purge\n");
 }

@@ -70,6 +70,14 @@ pub(crate) fn say_firm(firm: [u8; 4]) {
     say_text(b" firm ", &firm);
 }
 
+pub(crate) fn say_symbol(symbol: [u8; 8]) {
+    say_text(b" symbol ", &symbol);
+}
+
+pub(crate) fn say_account(account: [u8; 6]) {
+    say_text(b" account ", &account);
+}
+
 pub(crate) fn say_token(name: &[u8], token: [u8; 14]) {
     say_text(name, &token);
 }

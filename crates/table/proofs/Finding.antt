@@ -1,9 +1,11 @@
--- The law of find: a token means its first used record, whatever order the code compares in. Assumes nothing.
-use Rattle.octets.proofs.Proving.{List, _<_, _∙_, _≡_, _≤_, ap, false≢true, sym, true, ℕ}
+-- The laws of the two searches: a token means its first used record, whatever order the code compares in, and the first order such that a test
+-- holds is such a one, with none before it. Assumes nothing.
+use Rattle.octets.proofs.Proving.{Bool, List, _<_, _∙_, _≡_, _≤_, ap, false, false≢true, sym, true, ℕ}
 use Rattle.octets.specs.Bytes.{same}
 use Rattle.octets.proofs.Below.{same-true, same-self}
-use Rattle.octets.proofs.First.{first-is, first-none}
-use Rattle.table.specs.Table.{usedIn, orderAt, hasToken, placeOf}
+use Rattle.octets.proofs.First.{First, first-is, first-none}
+use Rattle.orders.specs.declared.order.Order.{Order}
+use Rattle.table.specs.Table.{usedIn, orderAt, hasToken, placeOf, firstSuch}
 
 -- record i is used and has the token, and none before it has
 pub record FirstWith (t token : List ℕ) (i : ℕ) : Type 0 where
@@ -29,3 +31,12 @@ module _ (t token : List ℕ) where
   pub not-found : usedIn t ≤ placeOf t token → NoneWith t token
   unfolding placeOf
   not-found h j l e = false≢true (sym (first-none (hasToken t token) (usedIn t) h j l) ∙ own j e)
+
+module _ (t : List ℕ) (test : Order → Bool) where
+  pub such-found : firstSuch t test < usedIn t → First (usedIn t) (λ i. test (orderAt t i)) (firstSuch t test)
+  unfolding firstSuch
+  such-found = first-is (λ i. test (orderAt t i)) (usedIn t)
+
+  pub such-none : usedIn t ≤ firstSuch t test → (j : ℕ) → j < usedIn t → test (orderAt t j) ≡ false
+  unfolding firstSuch
+  such-none = first-none (λ i. test (orderAt t i)) (usedIn t)

@@ -13,5 +13,8 @@ pub places-unique : Settled table.places.records_in.Reads.Post and Settled table
     and SettledLent table.places.store_header.Reads.Post
 places-unique = (λ κs a. settled) also (λ κs a. settled) also (λ κs a. settled) also (λ κs a. lent) also (λ κs a. lent)
 
+pub search-unique : Settled table.search.find_wanted.Reads.Post
+search-unique κs a = settled
+
 pub sound-unique : Settled table.sound.size_good.Reads.Post and Settled table.sound.sound.Reads.Post
 sound-unique = (λ κs a. settled) also (λ κs a. settled)

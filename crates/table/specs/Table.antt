@@ -74,6 +74,12 @@ orderFrom t i = pick (ltb i (usedIn t)) (orderAt t i) noOrder
 unfoldable pub orderNamed : List ℕ → List ℕ → Order
 orderNamed t token = orderFrom t (placeOf t token)
 
+-- ---- 'the first order such that', in record order (Ask 5)
+
+-- the number behind the used records where there is none
+unfoldable pub firstSuch : List ℕ → (Order → Bool) → ℕ
+firstSuch t test = firstBelow (usedIn t) (λ i. test (orderAt t i))
+
 -- ---- storing: what is no part of the table is not stored
 
 unfoldable pub storeOrder : List ℕ → ℕ → Order → List ℕ

@@ -3,4 +3,5 @@ mod compare;
 pub mod find;
 pub mod fresh;
 pub mod places;
+pub mod search;
 pub mod sound;

@@ -1,13 +1,13 @@
 -- What judging knows of an entry whose kind is known: how long it is, and where its first bad place is looked for. Assumes nothing.
-use Rattle.octets.proofs.Proving.{List, _∙_, _∷_, _≡_, _≤_, ap, arith, eqb, eqb-false, eqb-true, false, length, not, not-true, refl, sym, true, ℕ}
+use Rattle.octets.proofs.Proving.{Bool, List, _∙_, _∷_, _≡_, _≤_, ap, arith, eqb, eqb-false, eqb-true, false, getD, length, not, not-true, refl, sym, true, ℕ}
 use Rattle.octets.proofs.Below.{both}
 use Rattle.answers.specs.declared.Answer.the-variants.{Malformed, Done}
 use Rattle.wire.specs.Layout.{stampAt, place, badPlace, firstBadPlace, unbroken}
 use Rattle.wire.specs.Messages.{placeAnswer}
 use Rattle.wire.proofs.Found.{not-at-0}
 use Rattle.wire.proofs.Verdicts.{told}
-use Rattle.tape.specs.Kinds.{Kind, Enters, Replaces, Cancels, Modifies, Executes, BookCancels, SelfMatches, Prioritises, TurnsLate, EndsCross, TellsDay, SetsStock, Unknown, kindOf, layoutOf}
-use Rattle.tape.specs.Entries.{wellFormed, badPlaceOf, entryAnswer}
+use Rattle.tape.specs.Kinds.{Kind, Enters, Replaces, Cancels, Modifies, Executes, BookCancels, SelfMatches, Prioritises, TurnsLate, EndsCross, TellsDay, SetsStock, Purges, Disables, Enables, Unknown, kindBy, kindOf, layoutOf, purgeEntry}
+use Rattle.tape.specs.Entries.{wellFormed, badPlaceOf, entryAnswer, purges}
 use Rattle.tape.specs.Behind.{behindOf, judgedFields, Within}
 
 -- ---- lengths
@@ -28,6 +28,14 @@ formed s w =
 pub long-as : (s : List ℕ) → wellFormed s ≡ true → {r kind : Kind} → r ≡ kindOf s → r ≡ kind → length s ≡ layoutOf kind .size
 long-as s w promise told = formed s w .long ∙ ap (λ (k : Kind). layoutOf k .size) (sym promise ∙ told)
 
+-- what begins as a w is one, and as long
+pub purges-kind : (s : List ℕ) → purges s ≡ true → kindOf s ≡ Purges
+unfolding purges kindOf kindBy
+purges-kind s w = rw (eqb-true (getD s 0 0) (purgeEntry .code) w)
+
+pub purge-long : (s : List ℕ) → wellFormed s ≡ true → {r : Bool} → r ≡ purges s → r ≡ true → length s ≡ 21
+purge-long s w promise told = long-as s w refl (purges-kind s (sym promise ∙ told))
+
 -- the judged fields of a kind lie in an entry of its length
 pub within : (kind : Kind) → Within (behindOf kind) (layoutOf kind .size)
 within Enters = (omega arith, omega arith)
@@ -42,6 +50,9 @@ within TurnsLate = omega arith
 within EndsCross = omega arith
 within TellsDay = omega arith
 within SetsStock = omega arith
+within Purges = tt
+within Disables = tt
+within Enables = tt
 within Unknown = tt
 
 -- every kind has room for a stamp
@@ -58,6 +69,9 @@ stamped TurnsLate h = omega arith
 stamped EndsCross h = omega arith
 stamped TellsDay h = omega arith
 stamped SetsStock h = omega arith
+stamped Purges h = omega arith
+stamped Disables h = omega arith
+stamped Enables h = omega arith
 stamped Unknown h = absurd (h refl)
 
 pub stamp-fits : (s : List ℕ) → wellFormed s ≡ true → 9 ≤ length s
@@ -81,6 +95,9 @@ judged TurnsLate s h = refl
 judged EndsCross s h = refl
 judged TellsDay s h = refl
 judged SetsStock s h = refl
+judged Purges s h = refl
+judged Disables s h = refl
+judged Enables s h = refl
 judged Unknown s h = absurd (h refl)
 
 -- the fields of a kind stand one behind the other, from the stamp on
@@ -98,6 +115,9 @@ well-laid TurnsLate h = refl
 well-laid EndsCross h = refl
 well-laid TellsDay h = refl
 well-laid SetsStock h = refl
+well-laid Purges h = refl
+well-laid Disables h = refl
+well-laid Enables h = refl
 well-laid Unknown h = absurd (h refl)
 
 -- ---- 2, 3 or neither

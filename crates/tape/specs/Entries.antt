@@ -3,7 +3,7 @@ use Prim.Native.Nat.{ℕ}
 use mathlib.Core.Bool.{Bool, not, _&&_}
 use mathlib.Core.List.{List}
 use mathlib.Core.Option.{Option}
-use lib.ListN.{length, drop}
+use lib.ListN.{length, drop, getD}
 use lib.Dec.{leb, eqb}
 use Rattle.octets.specs.Choice.{firstOf_, _⇒_⨾_}
 use Rattle.answers.specs.declared.Answer.{Answer}
@@ -16,13 +16,15 @@ use Rattle.inbound.specs.declared.enter_order.EnterOrder.{EnterOrder}
 use Rattle.inbound.specs.declared.replace_order.ReplaceOrder.{ReplaceOrder}
 use Rattle.inbound.specs.declared.cancel_order.CancelOrder.{CancelOrder}
 use Rattle.inbound.specs.declared.modify_order.ModifyOrder.{ModifyOrder}
-use Rattle.tape.specs.Kinds.{kindOf, layoutOf, executionEntry, bookCancelEntry, selfMatchEntry, priorityEntry, systemEntry, stockEntry}
+use Rattle.tape.specs.Kinds.{kindOf, layoutOf, executionEntry, bookCancelEntry, selfMatchEntry, priorityEntry, systemEntry, stockEntry, purgeEntry, disableEntry}
 pub use Rattle.tape.specs.declared.entry.Execution.{Execution}
 pub use Rattle.tape.specs.declared.entry.BookCancel.{BookCancel}
 pub use Rattle.tape.specs.declared.entry.SelfMatch.{SelfMatch}
 pub use Rattle.tape.specs.declared.entry.Priority.{Priority}
 pub use Rattle.tape.specs.declared.entry.System.{System}
 pub use Rattle.tape.specs.declared.entry.StockState.{StockState}
+pub use Rattle.tape.specs.declared.entry.Purge.{Purge}
+pub use Rattle.tape.specs.declared.entry.Blocking.{Blocking}
 
 -- ---- judging
 
@@ -49,12 +51,16 @@ entryAnswer s =
 unfoldable pub stampOf : List ℕ → ℕ
 stampOf s = get (stampAt 1) s
 
--- every kind but s and h has a token behind its stamp, and no entry of those two is as long
+-- every kind but s h w d n has a token behind its stamp, and no entry of those five is as long
 abbrev pub tokenEnd : ℕ
 tokenEnd = 23
 
 unfoldable pub namesOrder : List ℕ → Bool
 namesOrder s = leb tokenEnd (length s)
+
+-- a w names an order by its firm and symbol (Ask 5)
+unfoldable pub purges : List ℕ → Bool
+purges s = eqb (getD s 0 0) (purgeEntry .code)
 
 -- the token that an entry names first: the order that it is about, and in O the new one
 unfoldable pub tokenOf : List ℕ → List ℕ
@@ -106,3 +112,14 @@ unfoldable pub stockStateOf : List ℕ → StockState
 stockStateOf s =
     reading (stockEntry .fields) s λ _ symbol state.
     record { symbol = symbol; state = state }
+
+unfoldable pub purgeOf : List ℕ → Purge
+purgeOf s =
+    reading (purgeEntry .fields) s λ _ firm symbol.
+    record { firm = firm; symbol = symbol }
+
+-- d and n have the same fields
+unfoldable pub blockingOf : List ℕ → Blocking
+blockingOf s =
+    reading (disableEntry .fields) s λ _ firm.
+    record { firm = firm }

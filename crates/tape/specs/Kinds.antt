@@ -8,7 +8,7 @@ use Rattle.octets.specs.Choice.{firstOf_, _⇒_⨾_}
 use Rattle.wire.specs.Layout.{Layout, stampAt, tokenAt, wholeAt, liquidityAt, bookReasonAt, systemEventAt, stockStateAt, limitPriceAt, textAt, shifted}
 use Rattle.wire.specs.Messages.{enterOrder, replaceOrder, cancelOrder, modifyOrder, noMessage}
 pub use Rattle.tape.specs.declared.kinds.Kind.{Kind}
-pub use Rattle.tape.specs.declared.kinds.Kind.the-variants.{Enters, Replaces, Cancels, Modifies, Executes, BookCancels, SelfMatches, Prioritises, TurnsLate, EndsCross, TellsDay, SetsStock, Unknown}
+pub use Rattle.tape.specs.declared.kinds.Kind.the-variants.{Enters, Replaces, Cancels, Modifies, Executes, BookCancels, SelfMatches, Prioritises, TurnsLate, EndsCross, TellsDay, SetsStock, Purges, Disables, Enables, Unknown}
 
 -- every body opens with an 8-byte stamp; then the inbound message without its type
 abbrev pub stamped : Layout → Layout
@@ -98,6 +98,24 @@ stockEntry = record {
       ∷ [];
 }
 
+-- Ask 5: the firm, and the symbol or eight spaces for all
+abbrev pub purgeEntry : Layout
+purgeEntry = record {
+  code = code "w";
+  size = 21;
+  fields =
+      stampAt 1
+      ∷ textAt 9 4  -- firm
+      ∷ textAt 13 8  -- symbol
+      ∷ [];
+}
+
+abbrev pub disableEntry : Layout
+disableEntry = record { code = code "d"; size = 13; fields = stampAt 1 ∷ textAt 9 4 ∷ [] }
+
+abbrev pub enableEntry : Layout
+enableEntry = record { code = code "n"; size = 13; fields = stampAt 1 ∷ textAt 9 4 ∷ [] }
+
 abbrev pub layoutOf : Kind → Layout
 layoutOf Enters = enterEntry
 layoutOf Replaces = replaceEntry
@@ -111,6 +129,9 @@ layoutOf TurnsLate = lateEntry
 layoutOf EndsCross = crossDoneEntry
 layoutOf TellsDay = systemEntry
 layoutOf SetsStock = stockEntry
+layoutOf Purges = purgeEntry
+layoutOf Disables = disableEntry
+layoutOf Enables = enableEntry
 layoutOf Unknown = noMessage
 
 -- ---- the kind of an entry
@@ -131,6 +152,9 @@ kindBy b =
     ⨾ eqb b (crossDoneEntry .code) ⇒ EndsCross
     ⨾ eqb b (systemEntry .code) ⇒ TellsDay
     ⨾ eqb b (stockEntry .code) ⇒ SetsStock
+    ⨾ eqb b (purgeEntry .code) ⇒ Purges
+    ⨾ eqb b (disableEntry .code) ⇒ Disables
+    ⨾ eqb b (enableEntry .code) ⇒ Enables
     ⨾ Unknown
 
 -- an entry's first byte is its kind
@@ -151,7 +175,10 @@ kindPlace TurnsLate = 8
 kindPlace EndsCross = 9
 kindPlace TellsDay = 10
 kindPlace SetsStock = 11
-kindPlace Unknown = 12
+kindPlace Purges = 12
+kindPlace Disables = 13
+kindPlace Enables = 14
+kindPlace Unknown = 15
 
 -- the length that a kind's letter fixes; 0 for a byte that is no kind
 unfoldable pub entryLength : ℕ → ℕ

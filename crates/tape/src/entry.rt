@@ -33,3 +33,14 @@ pub struct StockState {
     pub symbol: [u8; 8],
     pub state: u8,
 }
+
+// A firm's orders are to go, in one symbol or, where that is eight spaces, in all.
+pub struct Purge {
+    pub firm: [u8; 4],
+    pub symbol: [u8; 8],
+}
+
+// A firm's new orders are to be kept out, or let in again.
+pub struct Blocking {
+    pub firm: [u8; 4],
+}

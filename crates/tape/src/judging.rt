@@ -67,6 +67,7 @@ pub enum Behind {
     Event,
     // the state of a stock, behind any symbol
     State,
+    // a firm and a symbol may be anything: whether the firm is listed is asked later
     Nothing,
 }
 
@@ -86,6 +87,9 @@ fn behind_of(kind: Kind) -> Behind
         Kind::EndsCross => Behind::Token,
         Kind::TellsDay => Behind::Event,
         Kind::SetsStock => Behind::State,
+        Kind::Purges => Behind::Nothing,
+        Kind::Disables => Behind::Nothing,
+        Kind::Enables => Behind::Nothing,
         Kind::Unknown => Behind::Nothing,
     }
 }

@@ -2,7 +2,7 @@
 ghost use mathlib.Core.Path.{_≡_};
 ghost use Rattle.tape.specs.Kinds.{kindBy, kindOf, kindPlace, layoutOf, entryLength};
 
-// By what an entry does, in the order O U X M e c q p l f s h; the last is every other byte.
+// By what an entry does, in the order O U X M e c q p l f s h w d n; the last is every other byte.
 pub enum Kind {
     Enters,
     Replaces,
@@ -16,11 +16,31 @@ pub enum Kind {
     EndsCross,
     TellsDay,
     SetsStock,
+    Purges,
+    Disables,
+    Enables,
     Unknown,
 }
 
 // Whole lengths, kind byte and stamp included, in that order. Bytes, because a table is copied where it is indexed.
-pub const LENGTHS: [u8; 13] = [56, 55, 27, 28, 40, 28, 36, 27, 23, 23, 10, 18, 0];
+pub const LENGTHS: [u8; 16] = [
+    56,
+    55,
+    27,
+    28,
+    40,
+    28,
+    36,
+    27,
+    23,
+    23,
+    10,
+    18,
+    21,
+    13,
+    13,
+    0,
+];
 
 pub fn kind_by(letter: u8) -> Kind
     ensures { λ r. ⌜ r ≡ kindBy letter ⌝ }
@@ -38,6 +58,9 @@ pub fn kind_by(letter: u8) -> Kind
         b'f' => Kind::EndsCross,
         b's' => Kind::TellsDay,
         b'h' => Kind::SetsStock,
+        b'w' => Kind::Purges,
+        b'd' => Kind::Disables,
+        b'n' => Kind::Enables,
         _ => Kind::Unknown,
     }
 }
@@ -68,7 +91,10 @@ fn place_of(kind: Kind) -> usize
         Kind::EndsCross => 9,
         Kind::TellsDay => 10,
         Kind::SetsStock => 11,
-        Kind::Unknown => 12,
+        Kind::Purges => 12,
+        Kind::Disables => 13,
+        Kind::Enables => 14,
+        Kind::Unknown => 15,
     }
 }
 

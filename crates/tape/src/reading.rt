@@ -1,7 +1,9 @@
 // Reading an entry that was judged into values. Each asks for the length that its kind fixes and for nothing else.
+use crate::entry::Blocking;
 use crate::entry::BookCancel;
 use crate::entry::Execution;
 use crate::entry::Priority;
+use crate::entry::Purge;
 use crate::entry::SelfMatch;
 use crate::entry::StockState;
 use crate::entry::System;
@@ -16,13 +18,14 @@ use inbound::replace_order::parse_replace_order;
 use octets::be32;
 use octets::be64;
 use octets::byte_at;
+use octets::bytes4_at;
 use octets::bytes8_at;
 use octets::bytes14_at;
 use wire::shares::Removed;
 ghost use mathlib.Core.Path.{_≡_};
 ghost use Prim.Native.Nat.{_+_, _≤_};
 ghost use lib.ListN.{length};
-ghost use Rattle.tape.specs.Entries.{stampOf, tokenEnd, namesOrder, tokenOf, executionOf, bookCancelOf, selfMatchOf, priorityOf, systemOf, stockStateOf, messageIn, enterOf, replaceOf, cancelOf, modifyOf};
+ghost use Rattle.tape.specs.Entries.{stampOf, tokenEnd, namesOrder, tokenOf, executionOf, bookCancelOf, selfMatchOf, priorityOf, systemOf, stockStateOf, purges, purgeOf, blockingOf, messageIn, enterOf, replaceOf, cancelOf, modifyOf};
 
 // Every body opens with a stamp.
 pub fn stamp_of(entry: &[u8]) -> u64
@@ -32,13 +35,23 @@ pub fn stamp_of(entry: &[u8]) -> u64
     be64(entry, 1)
 }
 
-// The kinds that name no order, s and h, are shorter than the others are to the end of their token.
+// The kinds that name no token, s h w d n, are shorter than the others are to the end of their token.
 pub const TOKEN_END: usize = 23;
 
 pub fn names_order(entry: &[u8]) -> bool
     ensures { λ r. ⌜ r ≡ namesOrder (now (entry .entry)) ⌝ }
 {
     TOKEN_END <= entry.len()
+}
+
+// A w names an order by its firm and symbol.
+pub fn purges(entry: &[u8]) -> bool
+    ensures { λ r. ⌜ r ≡ purges (now (entry .entry)) ⌝ }
+{
+    if entry.len() == 0 {
+        return false;
+    }
+    entry[0] == b'w'
 }
 
 // The token that an entry names first: the order that it is about, and in O the new one.
@@ -108,6 +121,25 @@ pub fn stock_state_of(entry: &[u8]) -> StockState
     StockState {
         symbol: bytes8_at(entry, 9),
         state: byte_at(entry, 17),
+    }
+}
+
+pub fn purge_of(entry: &[u8]) -> Purge
+    requires { ⌜ length (now entry) ≡ 21 ⌝ }
+    ensures { λ r. ⌜ r ≡ purgeOf (now (entry .entry)) ⌝ }
+{
+    Purge {
+        firm: bytes4_at(entry, 9),
+        symbol: bytes8_at(entry, 13),
+    }
+}
+
+pub fn blocking_of(entry: &[u8]) -> Blocking
+    requires { ⌜ length (now entry) ≡ 13 ⌝ }
+    ensures { λ r. ⌜ r ≡ blockingOf (now (entry .entry)) ⌝ }
+{
+    Blocking {
+        firm: bytes4_at(entry, 9),
     }
 }
 

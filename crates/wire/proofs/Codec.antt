@@ -6,4 +6,4 @@ pub use Rattle.wire.specs.Layout.{_then_, ends}
 pub use Rattle.wire.specs.Faithful.{Faithful}
 pub use Rattle.wire.proofs.Puts.{behind}
 pub use Rattle.wire.proofs.Runs.{spelled, written}
-pub use Rattle.wire.proofs.RoundTrips.{faithful}
+pub use Rattle.wire.proofs.RoundTrips.{faithful, trips, kept-is, kept-long}

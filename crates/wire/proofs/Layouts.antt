@@ -5,7 +5,7 @@ use Rattle.octets.specs.Bytes.{part, numberOf, digits, zeros}
 use Rattle.octets.proofs.Laws.{number-digits, length-digits, digits-number, length-part, part-bytes}
 use Rattle.octets.proofs.Below.{both}
 use Rattle.octets.specs.Choice.{pick}
-use Rattle.wire.specs.Layout.{Form, number, bytes, gap, Rule, free, below, between, oneOf, legalToken, allZero, Field, Value, Values, FitsField, Fits, readValue, spellValue, readFields, spellFields, nonZeroByte, badPlace, orElse, firstBadPlace, Layout, spell, unbroken, wellLaid, gapIsZero, gapsAreZero}
+use Rattle.wire.specs.Layout.{Form, number, bytes, gap, Rule, free, below, between, oneOf, legalToken, allZero, blank, Field, Value, Values, FitsField, Fits, readValue, spellValue, readFields, spellFields, nonZeroByte, badPlace, orElse, firstBadPlace, Layout, spell, unbroken, wellLaid, gapIsZero, gapsAreZero}
 use Rattle.wire.specs.Legal.{Bytes}
 
 -- ---- what the computed conditions say
@@ -84,6 +84,7 @@ bytes-again gap (below n) at width xs g h e b = let z : _≡_ {A = ℕ} 0 1 = cc
 bytes-again gap (between low high) at width xs g h e b = let z : _≡_ {A = ℕ} 0 1 = cc in absurd (omega arith)
 bytes-again gap (oneOf letters) at width xs g h e b = let z : _≡_ {A = ℕ} 0 1 = cc in absurd (omega arith)
 bytes-again gap legalToken at width xs g h e b = let z : _≡_ {A = ℕ} 0 1 = cc in absurd (omega arith)
+bytes-again gap blank at width xs g h e b = let z : _≡_ {A = ℕ} 0 1 = cc in absurd (omega arith)
 
 -- ---- all fields
 

@@ -68,7 +68,7 @@ module _ (l : Layout) (well : wellLaid l ≡ true) (gaps : gapsAreZero (l .field
     spelled : (s : List ℕ) → spell l (values (reading (l .fields) s made)) ≡ spell l (readFields (l .fields) s)
     spelled s = ap (spell l) (apart (readFields (l .fields) s))
 
-    trips : Faithful l (λ (s : List ℕ). reading (l .fields) s made) (λ (m : X). spell l (values m)) values
+    pub trips : Faithful l (λ (s : List ℕ). reading (l .fields) s made) (λ (m : X). spell l (values m)) values
     trips = record {
       same-bytes = λ s b e. spelled s ∙ same-bytes s b e;
       same-buffer = λ s b e buffer room. same-buffer s b e buffer room _ (spelled s ∙ same-bytes s b e);

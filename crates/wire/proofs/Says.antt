@@ -1,9 +1,10 @@
 -- A test and the sentence that it tests: each test of a byte that the paper names holds exactly when its sentence does. Assumes nothing.
-use Rattle.octets.proofs.Proving.{Bool, _&&_, _<_, _||_, _∙_, _≡_, _≤_, _⊎_, ap, ap₂, arith, eq-eqb, eqb, eqb-true, false, inl, inr, le-leb, leb, leb-true, lt-ltb, ltb, ltb-true, or-assoc, refl, subst, sym, true, ℕ, ⊎-elim}
+use Rattle.octets.proofs.Proving.{Bool, List, _&&_, _<_, _||_, _∙_, _≡_, _≤_, _⊎_, ap, ap₂, arith, eq-eqb, eqb, eqb-true, false, getD, inl, inr, le-leb, leb, leb-true, length, lt-ltb, ltb, ltb-true, or-assoc, refl, subst, sym, true, ℕ, ⊎-elim}
 use Prim.Native.Char.{code}
 use Prim.Native.String as Text
+use Rattle.octets.specs.Bytes.{allAre}
 use Rattle.octets.specs.Choice.{among}
-use Rattle.octets.proofs.Below.{both}
+use Rattle.octets.proofs.Below.{both, all-at, all-each, are-below}
 use Rattle.wire.specs.Letters.{space}
 use Rattle.wire.specs.Text.{tokenByte, capital, small, digit}
 use Rattle.wire.specs.Legal.{LetterDigitOrSpace, OneOf}
@@ -70,3 +71,9 @@ pub says-among : (letters : Text.String) (b : ℕ) → Says (among letters b) (O
 unfolding among
 says-among Text.[] b = record { so = λ e. differ (sym e); test = λ h. absurd h }
 says-among (Text._∷_ c cs) b = says-or (says-eq b (code c)) (says-among cs b)
+
+pub says-are : (x : ℕ) (xs : List ℕ) → Says (allAre x xs) ((i : ℕ) → i < length xs → getD xs i 0 ≡ x)
+says-are x xs = record {
+  so = λ e i h. eqb-true _ _ (all-at (λ k. eqb (getD xs k 0) x) (length xs) i (sym (are-below x xs) ∙ e) h);
+  test = λ h. are-below x xs ∙ all-each (λ k. eqb (getD xs k 0) x) (length xs) (λ k l. eq-eqb _ _ (h k l));
+}

@@ -9,9 +9,9 @@ use mathlib.Core.Option.{Option, none, some}
 use lib.Dec.{leb, ltb, eqb}
 use lib.ListN.{length}
 use Rattle.octets.specs.Choice.{pick, among}
-use Rattle.wire.specs.Letters.{sides, sweeps, liquidityFlags, bookReasons, systemEvents, stockStates}
+use Rattle.wire.specs.Letters.{space, sides, sweeps, liquidityFlags, bookReasons, systemEvents, stockStates}
 use Rattle.wire.specs.Limits.{stampEnd, tokenSize, lowestPrice, highestPrice}
-use Rattle.octets.specs.Bytes.{part, put, numberOf, digits, zeros}
+use Rattle.octets.specs.Bytes.{part, put, numberOf, digits, zeros, allAre}
 use Rattle.wire.specs.Text.{tokenByte}
 
 -- a field holds a number, a text, or nothing (zeros)
@@ -28,6 +28,7 @@ pub data Rule : Type 0 where
   oneOf : String → Rule
   legalToken : Rule
   allZero : Rule
+  blank : Rule
 
 pub record Field : Type 0 where
   pub at : ℕ
@@ -54,6 +55,10 @@ oneOfAt at letters = record { at = at; width = 1; form = number; rule = oneOf le
 
 abbrev pub gapAt : ℕ → ℕ → Field
 gapAt at width = record { at = at; width = width; form = gap; rule = allZero }
+
+-- spaces and nothing else
+abbrev pub blankAt : ℕ → ℕ → Field
+blankAt at width = record { at = at; width = width; form = bytes; rule = blank }
 
 -- a stamp is below 86,400,000,000,000
 abbrev pub stampAt : ℕ → Field
@@ -197,6 +202,7 @@ badPlace (between low high) at xs = unless (leb low (numberOf xs) && leb (number
 badPlace (oneOf letters) at xs = unless (among letters (numberOf xs)) at
 badPlace legalToken at xs = badTokenByte at xs
 badPlace allZero at xs = nonZeroByte at xs
+badPlace blank at xs = unless (allAre space xs) at
 
 abbrev pub orElse : Option ℕ → Option ℕ → Option ℕ
 orElse none b = b
@@ -257,6 +263,7 @@ gapIsZero gap (below n) = false
 gapIsZero gap (between low high) = false
 gapIsZero gap (oneOf letters) = false
 gapIsZero gap legalToken = false
+gapIsZero gap blank = false
 gapIsZero number rule = true
 gapIsZero bytes rule = true
 

@@ -10,7 +10,7 @@ use Rattle.octets.specs.Bytes.{part, numberOf}
 use Rattle.answers.specs.Answer.{answerNumber, answerPlace}
 use Rattle.answers.specs.declared.Answer.{Answer}
 use Rattle.wire.specs.Letters.{space}
-use Rattle.wire.specs.Layout.{Rule, free, below, between, oneOf, legalToken, allZero, Field, Layout}
+use Rattle.wire.specs.Layout.{Rule, free, below, between, oneOf, legalToken, allZero, blank, Field, Layout}
 
 -- every byte is one
 abbrev pub Bytes : List ℕ → Type 0
@@ -36,6 +36,7 @@ Obeys (between low high) xs = (low ≤ numberOf xs) × (numberOf xs ≤ high)
 Obeys (oneOf letters) xs = OneOf letters (numberOf xs)
 Obeys legalToken xs = (i : ℕ) → i < length xs → LetterDigitOrSpace (getD xs i 0)
 Obeys allZero xs = (i : ℕ) → i < length xs → getD xs i 0 ≡ 0
+Obeys blank xs = (i : ℕ) → i < length xs → getD xs i 0 ≡ space
 
 infix 50 _∈_
 abbrev pub _∈_ : Field → List Field → Type 0
@@ -50,7 +51,8 @@ pub record Legal (l : Layout) (s : List ℕ) : Type 0 where
   pub typed : getD s 0 0 ≡ l .code
   pub judged : AllObey (l .fields) s
 
--- byte q is bad, of a field at `at` with the bytes xs: a text is judged byte by byte, a number as a whole and is bad from its first byte on
+-- byte q is bad, of a field at `at` with the bytes xs: a text is judged byte by byte, but a number, and a text that is to be blank, as a whole,
+-- and is bad from its first byte on
 unfoldable pub BadByte : Rule → ℕ → List ℕ → ℕ → Type 0
 BadByte free at xs q = ⊥
 BadByte (below n) at xs q = (q ≡ at) × (Obeys (below n) xs → ⊥)
@@ -58,6 +60,7 @@ BadByte (between low high) at xs q = (q ≡ at) × (Obeys (between low high) xs 
 BadByte (oneOf letters) at xs q = (q ≡ at) × (Obeys (oneOf letters) xs → ⊥)
 BadByte legalToken at xs q = (i : ℕ) × ((q ≡ at + i) × ((i < length xs) × (LetterDigitOrSpace (getD xs i 0) → ⊥)))
 BadByte allZero at xs q = (i : ℕ) × ((q ≡ at + i) × ((i < length xs) × (getD xs i 0 ≡ 0 → ⊥)))
+BadByte blank at xs q = (q ≡ at) × (Obeys blank xs → ⊥)
 
 abbrev pub BadIn : Field → List ℕ → ℕ → Type 0
 BadIn f s q = BadByte (f .rule) (f .at) (part s (f .at) (f .width)) q

@@ -1,7 +1,7 @@
 -- The sixteen messages of document 004, a table each: the type's letter, the length, and a line for each field with its offset. Which fields
 -- are judged is the paper's (Messages and entries): tokens and stamps everywhere, side and sweep letters inbound.
 use Prim.Native.Char.{code}
-use mathlib.Core.Bool.{Bool, not}
+use mathlib.Core.Bool.{Bool, not, _&&_}
 use mathlib.Core.List.{List, [], _∷_, _++_, map}
 use mathlib.Core.Option.{Option, none, some}
 use Prim.Native.Nat.{ℕ, _-_}
@@ -292,6 +292,10 @@ badAt (some at) ⨾ next = BadField at
 -- the same of a place as code hands it about
 abbrev pub placeAnswer : ℕ → Answer → Answer
 placeAnswer at next = pick (eqb at 0) next (BadField at)
+
+-- length and type are right
+abbrev pub framed : ℕ → ℕ → List ℕ → Bool
+framed size letter s = eqb (length s) size && eqb (getD s 0 0) letter
 
 -- a reader checks length and type (2), then the judged fields (3)
 unfoldable pub readAnswer : Layout → List ℕ → Answer

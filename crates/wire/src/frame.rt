@@ -13,7 +13,7 @@ ghost use Rattle.answers.specs.Answer.{ifDone};
 ghost use Rattle.wire.specs.Messages.{messageLayout, readAnswer, legalOrZeros, writeAnswer, bufferAfter};
 
 // The first of two parts where a call was done, else the second. Its address says that it is the caller's own memory.
-fn taken<'a>(answer: Answer, s: &'a [u8], blank: &'a [u8]) -> &'a [u8]
+pub fn taken<'a>(answer: Answer, s: &'a [u8], blank: &'a [u8]) -> &'a [u8]
     ensures { λ r. ⌜ (now r ≡ ifDone answer (now (s .entry)) (now (blank .entry))) × (ptr r ≡ ifDone answer (ptr (s .entry)) (ptr (blank .entry))) ⌝ }
 {
     if is_done(answer) {

@@ -20,19 +20,23 @@ ghost use mathlib.Core.Path.{_≡_};
 ghost use Prim.Native.Nat.{_+_, _<_, _≤_};
 ghost use lib.ListN.{length};
 ghost use Rattle.wire.specs.Layout.{place, firstBadPlace};
-ghost use Rattle.wire.specs.Messages.{messageLayout, fieldsFrom, readAnswer};
+ghost use Rattle.wire.specs.Messages.{messageLayout, fieldsFrom, framed, readAnswer};
 
 // Length and type, then the judged fields.
 pub fn judge(s: &[u8], k: usize) -> Answer
     ensures { λ r. ⌜ r ≡ readAnswer (messageLayout k) (now (s .entry)) ⌝ }
 {
-    if s.len() != size(k) {
-        return Answer::Malformed;
+    if is_framed(s, size(k), letter_of(k)) {
+        return answer_for(first_bad(s, k), Answer::Done);
     }
-    if first_byte(s) != letter_of(k) {
-        return Answer::Malformed;
-    }
-    answer_for(first_bad(s, k), Answer::Done)
+    Answer::Malformed
+}
+
+// Whether bytes have a message's length and its type. The purge port's messages, which are none of the sixteen, are asked the same.
+pub fn is_framed(s: &[u8], size: usize, letter: u8) -> bool
+    ensures { λ r. ⌜ r ≡ framed size letter (now (s .entry)) ⌝ }
+{
+    (s.len() == size) & (first_byte(s) == letter)
 }
 
 // Where the first bad byte of message k stands: of tokens and stamps everywhere, of side and sweep in what a client sends.

@@ -93,7 +93,7 @@ pub(crate) fn letter_of(k: usize) -> u8
 }
 
 // The type of what came in is its first byte: 0, which is no type, where there is none.
-pub(crate) fn first_byte(s: &[u8]) -> u8
+pub fn first_byte(s: &[u8]) -> u8
     ensures { λ r. ⌜ r ≡ getD (now (s .entry)) 0 0 ⌝ }
 {
     if s.len() == 0 {

@@ -16,7 +16,7 @@ ghost use Rattle.octets.specs.Bytes.{part};
 ghost use Rattle.wire.specs.Letters.{sides, sweeps, liquidityFlags, bookReasons, systemEvents, stockStates};
 ghost use Rattle.wire.specs.Limits.{stampEnd, lowestPrice, highestPrice};
 ghost use Rattle.wire.specs.Messages.{placeAnswer};
-ghost use Rattle.wire.specs.Layout.{place, earlierOf, unless, badPlace, below, between, oneOf, legalToken};
+ghost use Rattle.wire.specs.Layout.{place, earlierOf, unless, badPlace, below, between, oneOf, legalToken, blank};
 
 // A place is an offset. No judged field lies at 0, so 0 says that nothing is bad; as a number it stays in a register.
 pub const NOWHERE: usize = 0;
@@ -67,6 +67,22 @@ pub fn bad_limit_price(s: &[u8], at: usize) -> usize
 {
     let price = octets::be32(s, at);
     bad_unless((Price::LOWEST <= price) & (price <= Price::HIGHEST), at)
+}
+
+// A number of two bytes that is to be 0.
+pub fn bad_nonzero(s: &[u8], at: usize) -> usize
+    requires { ⌜ at + 2 ≤ length (now s) ⌝ }
+    ensures { λ r. ⌜ r ≡ place (badPlace (between 0 0) at (part (now (s .entry)) at 2)) ⌝ }
+{
+    bad_unless(octets::be16(s, at) == 0, at)
+}
+
+// A text of n bytes that is to be blank. It is judged as a whole: which of its bytes says something says nothing.
+pub fn bad_blank(s: &[u8], at: usize, n: usize) -> usize
+    requires { ⌜ at + n ≤ length (now s) ⌝ }
+    ensures { λ r. ⌜ r ≡ place (badPlace blank at (part (now (s .entry)) at n)) ⌝ }
+{
+    bad_unless(octets::are_all(s, at, n, b' '), at)
 }
 
 // The fourteen bytes are looked at one by one, so the place is that of the first byte that no token holds.

@@ -8,3 +8,4 @@ pub mod Edges
 pub mod Odds
 pub mod Places
 pub mod Halts
+pub mod Purges

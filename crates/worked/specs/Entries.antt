@@ -73,6 +73,19 @@ crossDone name = text "f" ++ stamp ++ token name
 unfoldable pub halt : String → String → List ℕ
 halt symbol state = text "h" ++ stamp ++ text symbol ++ text state
 
+-- firm, symbol; eight spaces are all symbols (Ask 5)
+unfoldable pub purge : String → String → List ℕ
+purge firm symbol = text "w" ++ stamp ++ text firm ++ text symbol
+
+abbrev pub all : String
+all = "        "
+
+unfoldable pub disable : String → List ℕ
+disable firm = text "d" ++ stamp ++ text firm
+
+unfoldable pub enable : String → List ℕ
+enable firm = text "n" ++ stamp ++ text firm
+
 -- ---- an entry with one field changed
 
 unfoldable pub stampedAt : ℕ → List ℕ → List ℕ
@@ -135,6 +148,10 @@ selfMatchedLate = enteredLate then selfMatch "A" 50
 -- ABC is halted
 unfoldable pub haltedThen : List (List ℕ) → List (List ℕ)
 haltedThen es = es then halt "ABC     " "H"
+
+-- ABCD is blocked (Ask 5)
+unfoldable pub blockedThen : List (List ℕ) → List (List ℕ)
+blockedThen es = es then disable "ABCD"
 
 -- the day is over
 unfoldable pub closing : List (List ℕ)

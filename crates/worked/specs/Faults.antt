@@ -4,7 +4,7 @@ use Prim.Native.String.{String}
 use mathlib.Core.List.{List, [], _∷_, _++_, map}
 use Rattle.octets.specs.Choice.{text}
 use Rattle.octets.specs.Bytes.{digits, put}
-use Rattle.worked.specs.Entries.{good, begun, haltedThen, _inStock_, _forFirm_, _displayed_, _atLeast_}
+use Rattle.worked.specs.Entries.{good, begun, haltedThen, blockedThen, _inStock_, _forFirm_, _displayed_, _atLeast_}
 use Rattle.worked.specs.Messages.{isRejected}
 use Rattle.worked.specs.Case.{Case, after_offer_answers_sends_leaves_, usedUp}
 
@@ -22,6 +22,7 @@ unfoldable pub faults : List Fault
 faults =
     fault "C" [] (λ e. e)  -- day not open: nothing went before
     ∷ fault "L" begun (λ e. e forFirm "WXYZ")  -- firm not listed
+    ∷ fault "a" (blockedThen begun) (λ e. e)  -- firm blocked; a blank one means the default (Ask 5)
     ∷ fault "S" begun (λ e. e inStock "AB C    ")  -- stock not capitals, then spaces
     ∷ fault "H" (haltedThen begun) (λ e. e)  -- stock halted (Ask 2)
     ∷ fault "R" begun (λ e. put e 55 (text "S"))  -- cross not N O C
@@ -43,7 +44,7 @@ both f g =
     after f .before offer f .spoils (g .spoils (good "A")) answers 0 sends isRejected "A" (f .letter) leaves
     (usedUp "A" ∷ [])
 
--- C L, L S, S H, H R, R D, D X, X Z, Z N
+-- C L, L a, a S, S H, H R, R D, D X, X Z, Z N
 unfoldable pub neighbours : List Fault → List Case
 neighbours [] = []
 neighbours (f ∷ []) = []

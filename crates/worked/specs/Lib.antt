@@ -10,3 +10,4 @@ pub mod Edges
 pub mod Odds
 pub mod Places
 pub mod Halts
+pub mod Purges

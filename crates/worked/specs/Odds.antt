@@ -30,7 +30,9 @@ soundness =
     ∷ not (sound (damaged 0 3))  -- day
     ∷ not (sound (damaged 1 0))  -- firm count
     ∷ not (sound (damaged 1 2))  -- a second firm that is zero
-    ∷ not (sound (damaged 3 1))  -- a byte that is zero
+    ∷ not (sound (damaged 2 1))  -- a byte that is zero
+    ∷ sound (damaged 3 1)  -- the one firm blocked (Ask 5)
+    ∷ not (sound (damaged 3 2))  -- a bit past the firm count
     ∷ not (sound (damaged 7 4))  -- used, of three records
     ∷ sound (damaged 7 2)
     ∷ not (sound (damaged 8 1))  -- last stamp
@@ -71,7 +73,7 @@ flagsAfter es = orderNamed (play small es .world .books .table) (token "A") .fla
 unfoldable pub stepOdds : List Bool
 stepOdds =
     -- 10 before 11, and 11: length, place, count
-    eqb (answerOver (damaged 3 1) 79 0 0) 10
+    eqb (answerOver (damaged 2 1) 79 0 0) 10
     ∷ eqb (answerOver someTable 79 0 0) 11
     ∷ eqb (answerOver someTable 80 80 0) 11
     ∷ eqb (answerOver someTable 80 0 81) 11

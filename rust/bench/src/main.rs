@@ -54,6 +54,9 @@ fn run() -> Vec<Row> {
     let mut rows: Vec<Row> = USED.into_iter().flat_map(rows::steps).collect();
     rows.push(rows::step_over_a_long_list());
     rows.extend(USED.into_iter().flat_map(rows::cancels));
+    // A table of one order needs no search.
+    rows.extend(USED.into_iter().skip(1).map(rows::purge));
+    rows.extend(USED.last().copied().map(rows::purge_of_none));
     #[cfg(weighed)]
     rows.extend(rows::weighed(&USED));
     rows.extend(rows::release_alone());
@@ -62,6 +65,12 @@ fn run() -> Vec<Row> {
         messages
             .iter()
             .map(|(inbound, message)| rows::codec(*inbound, message)),
+    );
+    let requests = scene::requests();
+    rows.extend(
+        requests
+            .iter()
+            .map(|(purge, message)| rows::making(*purge, message)),
     );
     rows
 }

@@ -1,7 +1,7 @@
 //! A table judged and searched, and a whole step over it and a list of stocks, as a Rust programmer
 //! would by hand: what the proved step is held to.
 
-use pilaqsevi::Marks;
+use pilaqsevi::{Marks, SYMBOL_SIZE};
 use second::Told;
 
 use crate::{list, ring};
@@ -13,10 +13,12 @@ const MOST_SHARES: u64 = 999_999;
 const HIGHEST_THRESHOLD: u32 = 1_000_000;
 const LAST_REFERENCE: u64 = 1_000_000_000_000_000_000;
 const DAY_NANOS: u64 = 86_400_000_000_000;
-/// The bytes that a Modify, a Cancel and all that they send begin with: kind or type, stamp, token.
+/// The bytes that a Modify, a Cancel and all that is sent begin with: kind or type, stamp, token.
 const HEAD_LEN: usize = 23;
-/// What they send at most: those bytes and five more.
+/// What is sent at most: those bytes and five more.
 const SENT_LEN: usize = HEAD_LEN + 5;
+/// What a w says instead of a symbol when it means all of them.
+const ALL_SYMBOLS: Symbol = [b' '; SYMBOL_SIZE];
 /// An order's flags.
 const LATE: u8 = 1;
 const PENDING: u8 = 2;
@@ -24,16 +26,30 @@ const REJECT_SENT: u8 = 4;
 
 type Header = [u8; HEADER_LEN];
 pub type Record = [u8; RECORD_LEN];
-type Head = [u8; HEAD_LEN];
+type Stamp = [u8; 8];
+type Token = [u8; 14];
+type Firm = [u8; 4];
+type Symbol = [u8; SYMBOL_SIZE];
 
-/// What a client wants of its order.
-enum Wish {
-    Modify { side: u8, shares: u32 },
-    Cancel { size: u32 },
+/// What is wanted of a client's order, or of the next of a firm's.
+enum Wish<'a> {
+    Modify {
+        token: &'a Token,
+        side: u8,
+        shares: u32,
+    },
+    Cancel {
+        token: &'a Token,
+        size: u32,
+    },
+    Purge {
+        firm: &'a Firm,
+        symbol: &'a Symbol,
+    },
 }
 
-/// What becomes of the order, in the fields that a Modify or a Cancel may change, and what is sent:
-/// a letter before stamp and token, and the bytes behind them.
+/// What becomes of the order, in the fields that a Modify, a Cancel or a w may change, and what is
+/// sent: a letter before stamp and token, and the bytes behind them.
 struct Deed {
     state: u8,
     side: u8,
@@ -58,9 +74,21 @@ pub fn judge(table: &[u8]) -> bool {
 }
 
 /// The first used record of this token.
-pub fn find(table: &[u8], token: &[u8; 14]) -> Option<usize> {
+pub fn find(table: &[u8], token: &Token) -> Option<usize> {
     let mut used = used(table).iter();
     used.position(|record| record[1..15] == *token)
+}
+
+/// The first used record with an order that a w of this firm and symbol cancels.
+fn find_wanted(table: &[u8], firm: &Firm, symbol: &Symbol) -> Option<usize> {
+    let all = *symbol == ALL_SYMBOLS;
+    let mut used = used(table).iter();
+    used.position(|record| {
+        record[0] == b'L'
+            && record[64] & LATE == 0
+            && record[44..48] == *firm
+            && (all || record[28..36] == *symbol)
+    })
 }
 
 /// The used records; none of a table that can't have so many.
@@ -69,9 +97,9 @@ pub fn used(table: &[u8]) -> &[Record] {
     used.unwrap_or_default()
 }
 
-/// The whole step of a Modify or a Cancel: table, ring, list and entry judged, the order found, the
-/// rule decided, and record, header and message written. Another kind is answered 2, since none is
-/// measured.
+/// The whole step of a Modify, a Cancel or a w: table, ring, list and entry judged, the order found,
+/// the rule decided, and record, header and message written. Another kind is answered 2, since none
+/// is measured.
 #[inline(never)]
 pub fn step(
     table: &mut [u8],
@@ -83,25 +111,29 @@ pub fn step(
     if let Some(wrong) = wrong(table, ring.len(), *marks, stocks) {
         return answer(wrong);
     }
-    let Some((head, wish)) = read(entry) else {
+    let Some((stamp, wish)) = read(entry) else {
         return answer(2);
     };
-    if let Some(place) = bad_byte(head, &wish) {
+    if let Some(place) = bad_byte(stamp, &wish) {
         return Told { answer: 3, place };
     }
-    if head[1..9] < table[8..16] {
+    if stamp[..] < table[8..16] {
         return answer(4);
     }
-    let Some((place, deed)) = decided(table, head, wish) else {
+    if unlisted(table, &wish) {
+        return answer(15);
+    }
+    let Some((place, deed)) = decided(table, wish) else {
         return answer(1);
     };
-    let message = message(head, &deed);
+    let (records, _) = table[HEADER_LEN..].as_chunks_mut();
+    let record = &mut records[place];
+    let message = message(stamp, record, &deed);
     let put = ring::put(ring, *marks, &message[..deed.sent_len]);
     if put == 0 {
         marks.held += deed.sent_len;
-        table[8..16].copy_from_slice(&head[1..9]);
-        let (records, _) = table[HEADER_LEN..].as_chunks_mut();
-        write(&mut records[place], &deed);
+        write(record, &deed);
+        table[8..16].copy_from_slice(stamp);
     }
     answer(put)
 }
@@ -122,30 +154,47 @@ fn answer(answer: u8) -> Told {
     Told { answer, place: 0 }
 }
 
-/// What an entry begins with and what it wishes; nothing where its kind is another or its length
-/// isn't its kind's.
-fn read(entry: &[u8]) -> Option<(&Head, Wish)> {
-    let (head, body) = entry.split_first_chunk::<HEAD_LEN>()?;
+/// An entry's stamp and what it wishes; nothing where its kind is another or its length isn't its
+/// kind's.
+fn read(entry: &[u8]) -> Option<(&Stamp, Wish<'_>)> {
+    let (kind, rest) = entry.split_first()?;
+    let (stamp, body) = rest.split_first_chunk()?;
     let shares = |bytes: &[u8]| bytes.try_into().ok().map(u32::from_be_bytes);
-    let wish = match (head[0], body) {
-        (b'M', &[side, ref total @ ..]) => Wish::Modify {
-            side,
-            shares: shares(total)?,
-        },
-        (b'X', size) => Wish::Cancel {
-            size: shares(size)?,
-        },
+    let wish = match kind {
+        b'M' => {
+            let (token, rest) = body.split_first_chunk()?;
+            let (&side, total) = rest.split_first()?;
+            let shares = shares(total)?;
+            Wish::Modify {
+                token,
+                side,
+                shares,
+            }
+        }
+        b'X' => {
+            let (token, size) = body.split_first_chunk()?;
+            let size = shares(size)?;
+            Wish::Cancel { token, size }
+        }
+        b'w' => {
+            let (firm, symbol) = body.split_first_chunk()?;
+            let symbol = symbol.try_into().ok()?;
+            Wish::Purge { firm, symbol }
+        }
         _ => return None,
     };
-    Some((head, wish))
+    Some((stamp, wish))
 }
 
 /// The first bad byte of an entry: its stamp's first, a token's character, or a Modify's side.
-fn bad_byte(head: &Head, wish: &Wish) -> Option<usize> {
-    if long_number(head, 1) >= DAY_NANOS {
+fn bad_byte(stamp: &Stamp, wish: &Wish) -> Option<usize> {
+    if long_number(stamp, 0) >= DAY_NANOS {
         return Some(1);
     }
-    let mut token = head[9..].iter();
+    let (Wish::Modify { token, .. } | Wish::Cancel { token, .. }) = wish else {
+        return None;
+    };
+    let mut token = token.iter();
     if let Some(character) = token.position(|byte| !legal_character(byte)) {
         return Some(9 + character);
     }
@@ -155,14 +204,29 @@ fn bad_byte(head: &Head, wish: &Wish) -> Option<usize> {
     }
 }
 
+/// Whether an entry is a w of a firm that isn't listed.
+fn unlisted(table: &[u8], wish: &Wish) -> bool {
+    let Wish::Purge { firm, .. } = wish else {
+        return false;
+    };
+    !split(table).is_some_and(|(header, _)| {
+        let mut listed = firms(header).iter().take(usize::from(header[1]));
+        listed.any(|listed| listed == *firm)
+    })
+}
+
 /// Which record an entry changes, and how; nothing where it is ignored.
-fn decided(table: &[u8], head: &Head, wish: Wish) -> Option<(usize, Deed)> {
-    let place = find(table, head.last_chunk()?)?;
+fn decided(table: &[u8], wish: Wish) -> Option<(usize, Deed)> {
+    let place = match wish {
+        Wish::Modify { token, .. } | Wish::Cancel { token, .. } => find(table, token),
+        Wish::Purge { firm, symbol } => find_wanted(table, firm, symbol),
+    }?;
     let (header, records) = split(table)?;
     let record = &records[place];
     let deed = match wish {
-        Wish::Modify { side, shares } => modified(record, header[0], side, shares),
-        Wish::Cancel { size } => canceled(record, size),
+        Wish::Modify { side, shares, .. } => modified(record, header[0], side, shares),
+        Wish::Cancel { size, .. } => canceled(record, size),
+        Wish::Purge { .. } => Some(reduced(record, 0)),
     };
     Some((place, deed?))
 }
@@ -197,26 +261,35 @@ fn modified(record: &Record, day: u8, side: u8, shares: u32) -> Option<Deed> {
 /// What a Cancel makes of its order. The size is what may be executed in all, so shares lost to a self
 /// match don't count against it.
 fn canceled(record: &Record, size: u32) -> Option<Deed> {
-    let (liable, executed) = (number(record, 16), number(record, 20));
-    let spent = executed + number(record, 24);
-    let (open, new_open) = (liable - spent, size.saturating_sub(executed));
+    let new_open = size.saturating_sub(number(record, 20));
     let flags = record[64];
-    if record[0] != b'L' || new_open >= open || flags & PENDING != 0 {
+    if record[0] != b'L' || new_open >= open(record) || flags & PENDING != 0 {
         return None;
     }
     if flags & LATE != 0 {
         return canceled_late(record, size);
     }
-    let [a, b, c, d] = (open - new_open).to_be_bytes();
-    Some(Deed {
+    Some(reduced(record, new_open))
+}
+
+/// An order of which fewer shares stay open, or none as after a w.
+fn reduced(record: &Record, new_open: u32) -> Deed {
+    let decrement = open(record) - new_open;
+    let [a, b, c, d] = decrement.to_be_bytes();
+    Deed {
         state: if new_open == 0 { b'D' } else { b'L' },
         side: record[15],
-        liable: spent + new_open,
-        flags,
+        liable: number(record, 16) - decrement,
+        flags: record[64],
         letter: b'C',
         tail: [a, b, c, d, b'U'],
         sent_len: SENT_LEN,
-    })
+    }
+}
+
+/// The open shares of a sound record.
+fn open(record: &Record) -> u32 {
+    number(record, 16) - number(record, 20) - number(record, 24)
 }
 
 /// In the late period a Cancel to size 0 waits, and any other is refused once a token.
@@ -238,10 +311,11 @@ fn canceled_late(record: &Record, size: u32) -> Option<Deed> {
 }
 
 /// The message of a deed, and zeros behind a short one.
-fn message(head: &Head, deed: &Deed) -> [u8; SENT_LEN] {
+fn message(stamp: &Stamp, record: &Record, deed: &Deed) -> [u8; SENT_LEN] {
     let mut message = [0; SENT_LEN];
-    message[..HEAD_LEN].copy_from_slice(head);
     message[0] = deed.letter;
+    message[1..9].copy_from_slice(stamp);
+    message[9..HEAD_LEN].copy_from_slice(&record[1..15]);
     message[HEAD_LEN..].copy_from_slice(&deed.tail);
     message
 }
@@ -264,11 +338,12 @@ fn split(table: &[u8]) -> Option<(&Header, &[Record])> {
 }
 
 fn header_sound(header: &Header) -> bool {
-    let (firms, _) = header[28..60].as_chunks::<4>();
-    let count = usize::from(header[1]);
+    let (firms, count) = (firms(header), usize::from(header[1]));
     header[0] <= 2
         && (1..=firms.len()).contains(&count)
-        && header[2..4] == [0; 2]
+        && header[2] == 0
+        // The bits of blocked firms; with eight firms none is past the count.
+        && u32::from(header[3]) >> count == 0
         && long_number(header, 8) < DAY_NANOS
         && (1..=LAST_REFERENCE).contains(&long_number(header, 16))
         && (1..=HIGHEST_THRESHOLD).contains(&number(header, 24))
@@ -277,8 +352,14 @@ fn header_sound(header: &Header) -> bool {
         && header[60..64] == [0; 4]
 }
 
+/// The places for firms, of which only so many as the count says hold one.
+fn firms(header: &Header) -> &[Firm] {
+    let (firms, _) = header[28..60].as_chunks();
+    firms
+}
+
 /// 1 to 4 capitals, then spaces.
-fn firm_shaped(firm: &[u8; 4]) -> bool {
+fn firm_shaped(firm: &Firm) -> bool {
     let code = firm.trim_ascii_end();
     // Only spaces may follow the capitals, and trimming takes other white space too.
     !code.is_empty()
@@ -350,6 +431,24 @@ mod tests {
         assert!(sound > 1_000 && unsound > 1_000, "{sound} {unsound}");
     }
 
+    #[test]
+    fn judges_all_blocks_as_the_second_host_does() {
+        let mut table = Scene::new(1).table;
+        for count in 1..=8 {
+            table[1] = count;
+            table[28..28 + 4 * usize::from(count)].fill(b'A');
+            for byte in 0..=255 {
+                let bits_of_firms = u32::from(byte) < 1 << count;
+                for (place, right) in [(2, byte == 0), (3, bits_of_firms)] {
+                    table[place] = byte;
+                    assert_eq!(judge(&table), right);
+                    assert_eq!(Host::load(&table).is_some(), right);
+                    table[place] = 0;
+                }
+            }
+        }
+    }
+
     /// A step by hand and the second host's, which must tell the same and leave the same bytes. Gives
     /// what they told.
     fn both(
@@ -366,14 +465,15 @@ mod tests {
         assert_eq!(step(table, ring, marks, &listed, entry), told);
         assert!((table.as_slice(), *ring) == (right.0.as_slice(), right.1));
         assert_eq!((marks.at, marks.held), (right.2, right.3));
-        assert!(listed == stocks, "neither kind touches the list");
+        assert!(listed == stocks, "none of the kinds touches the list");
         told
     }
 
-    /// Entries of a kind over all kinds of tables, rings and lists, damaged ones among them.
-    fn goes_as_the_second_host_does(kind: u8) {
+    /// Entries of a kind over all kinds of tables, rings and lists, damaged ones among them. Gives how
+    /// often each answer was told.
+    fn goes_as_the_second_host_does(kind: u8) -> [u32; 16] {
         let (mut chance, mut tapes) = (Chance::new(3), Tapes::new(3));
-        let mut answered = [0; 15];
+        let mut answered = [0; 16];
         while answered.iter().sum::<u32>() < 20_000 {
             let records = 1 + chance.place(6);
             let mut table = sound_table(&mut chance, records);
@@ -381,9 +481,9 @@ mod tests {
                 table[0] = 1;
             }
             let mut stocks = good_list(&mut chance, &table);
-            let entry = tapes.entry(&table, &stocks);
-            if entry.first() != Some(&kind) {
-                continue;
+            let mut entry = tapes.entry(&table, &stocks);
+            while entry.first() != Some(&kind) {
+                entry = tapes.entry(&table, &stocks);
             }
             if chance.one_in(8) {
                 damage::table(&mut chance, &mut table);
@@ -399,6 +499,7 @@ mod tests {
         for answer in [0, 1, 2, 3, 4, 9, 10, 11, 14] {
             assert!(answered[answer] > 20, "{answered:?}");
         }
+        answered
     }
 
     #[test]
@@ -411,12 +512,19 @@ mod tests {
         goes_as_the_second_host_does(b'X');
     }
 
-    /// A Cancel of the scene's order, into a ring with room for so many bytes: the answer, the letter
-    /// of what is sent, and the order's state after it.
-    fn canceled(scene: &Scene, size: u32, flags: u8, room: usize) -> (u8, Option<u8>, u8) {
+    #[test]
+    fn purges_as_the_second_host_does() {
+        let answered = goes_as_the_second_host_does(b'w');
+        assert!(answered[15] > 1_000, "{answered:?}");
+    }
+
+    /// The scene's entry with such an end, for an order with these flags, into a ring with room for so
+    /// many bytes: the answer, the letter of what is sent, and the order's state after it.
+    fn offered(scene: &Scene, end: &[u8], flags: u8, room: usize) -> (u8, Option<u8>, u8) {
         let mut scene = scene.clone();
         scene.table[FLAGS] = flags;
-        scene.entry[23..].copy_from_slice(&size.to_be_bytes());
+        let end_at = scene.entry.len() - end.len();
+        scene.entry[end_at..].copy_from_slice(end);
         let (at, held) = (70, 80 - room);
         let (mut ring, mut marks) = ([0; 80], Marks { at, held });
         let (table, stocks) = (&mut scene.table, &mut scene.stocks);
@@ -442,11 +550,40 @@ mod tests {
                     (0, _) => (0, Some(b'P'), b'L', 23),
                     _ => (0, Some(b'I'), b'L', 23),
                 };
+                let size = size.to_be_bytes();
                 let right = (answer, sent, state);
-                assert_eq!(canceled(&scene, size, flags, len), right);
+                assert_eq!(offered(&scene, &size, flags, len), right);
                 let blocked = if answer == 0 { 9 } else { answer };
                 let right = (blocked, None, b'L');
-                assert_eq!(canceled(&scene, size, flags, len - 1), right);
+                assert_eq!(offered(&scene, &size, flags, len - 1), right);
+            }
+        }
+    }
+
+    /// Of the flags only late keeps an order from a w of its firm and symbol, or of all symbols. What
+    /// stands past the firms is no firm, and a blank one isn't the default's.
+    #[test]
+    fn purges_under_all_flags() {
+        let mut scene = Scene::to_purge(2);
+        scene.table.truncate(64 + 2 * 80);
+        let wishes: [(&[u8; 12], u8); 7] = [
+            (b"ABCDIBM     ", 0),
+            (b"ABCD        ", 0),
+            (b"ABCDIBM    A", 1),
+            (b"ABCDJBM     ", 1),
+            (b"ABCEIBM     ", 15),
+            (b"    IBM     ", 15),
+            (b"\0\0\0\0IBM     ", 15),
+        ];
+        for (wish, answer) in wishes {
+            for flags in 0..=255 {
+                let (answer, blocked, sent, state) = match (answer, flags & 1) {
+                    (0, 0) => (0, 9, Some(b'C'), b'D'),
+                    (0, _) => (1, 1, None, b'L'),
+                    _ => (answer, answer, None, b'L'),
+                };
+                assert_eq!(offered(&scene, wish, flags, 28), (answer, sent, state));
+                assert_eq!(offered(&scene, wish, flags, 27), (blocked, None, b'L'));
             }
         }
     }

@@ -4,7 +4,7 @@ use std::collections::VecDeque;
 use std::hint::black_box;
 use std::time::Duration;
 
-use pilaqsevi::{Answer, Marks, echo, release, step};
+use pilaqsevi::{Answer, LONGEST_ENTRY, Marks, echo, entry, release, step};
 use second::{Host, Outbox, Stocks};
 
 use crate::plain;
@@ -14,6 +14,8 @@ use crate::scene::{Scene, long_list};
 #[cfg(weighed)]
 use crate::{find, list, scales, scene::Alike, search};
 
+/// The stamp of entries that are made.
+const STAMP: u64 = 34_200_000_000_000;
 /// A ring that has room for what a turn of steps sends.
 const RING_LEN: usize = 4_096;
 /// The length of a Modified and of a Canceled, which the scenes' entries send.
@@ -87,6 +89,18 @@ pub fn cancels(used: usize) -> Vec<Row> {
     ]
 }
 
+/// A w whose order is the last of so many.
+pub fn purge(used: usize) -> Row {
+    let what = format!("purge, {used} used");
+    beside_the_same_job(&what, &Scene::to_purge(used), claim_for(used))
+}
+
+/// A w that finds none left among so many, and is ignored.
+pub fn purge_of_none(used: usize) -> Row {
+    let what = format!("purge, {used} used, none left");
+    beside_the_same_job(&what, &Scene::purged(used), claim_for(used))
+}
+
 /// What is claimed of a table that is judged; with one record there is next to nothing to judge and
 /// to find.
 fn claim_for(used: usize) -> Option<f64> {
@@ -97,10 +111,14 @@ fn claim_for(used: usize) -> Option<f64> {
 pub fn step_over_a_long_list() -> Row {
     let mut scene = Scene::new(1);
     scene.stocks = long_list();
-    let (mut proved, mut by_hand) = (Over::new(&scene), Over::new(&scene));
+    beside_the_same_job("step, 1 used, list of 2000", &scene, None)
+}
+
+/// A proved step beside all of the job by hand.
+fn beside_the_same_job(what: &str, scene: &Scene, claim: Option<f64>) -> Row {
+    let (mut proved, mut by_hand) = (Over::new(scene), Over::new(scene));
     let [step, whole] = race([&mut || proved.proved_steps(), &mut || by_hand.plain_steps()]);
-    let what = "step, 1 used, list of 2000";
-    Row::new(what, step, "plain, the same job", whole, None)
+    Row::new(what, step, "plain, the same job", whole, claim)
 }
 
 /// What a step calls, by itself: judging and searching tables with so many used records, judging
@@ -297,6 +315,32 @@ pub fn codec(inbound: bool, message: &[u8]) -> Row {
     Row::new(&what, proved, "second host", other, Some(1.0))
 }
 
+/// An entry made of a message; the second host judges alike, and what it makes is the same.
+pub fn making(purge: bool, message: &[u8]) -> Row {
+    let (mut made, mut other_made) = ([0; LONGEST_ENTRY], [0; LONGEST_ENTRY]);
+    let [proved, other] = race([
+        &mut || {
+            timed(|| {
+                let made = black_box(&mut made);
+                let answer = entry(purge, black_box(STAMP), black_box(message), made);
+                assert_eq!(answer, Answer::Done);
+            })
+        },
+        &mut || {
+            timed(|| {
+                let made = black_box(&mut other_made);
+                let told = second::entry(purge, black_box(STAMP), black_box(message), made);
+                assert_eq!(told.answer, 0);
+            })
+        },
+    ]);
+    assert_eq!(made, other_made);
+    let sender = if purge { "purge port" } else { "client" };
+    let (letter, len) = (char::from(message[0]), message.len());
+    let what = format!("make an entry of {letter} ({sender}, {len} bytes)");
+    Row::new(&what, proved, "second host", other, Some(1.0))
+}
+
 /// Marks of a ring that is full.
 fn full() -> Marks {
     Marks {
@@ -333,7 +377,7 @@ impl Over {
         })
     }
 
-    /// A turn of steps that are done.
+    /// A turn of steps.
     fn steps(
         &mut self,
         mut step: impl FnMut(&mut [u8], &mut [u8], &mut Marks, &mut [u8], &[u8]) -> u8,
@@ -341,8 +385,10 @@ impl Over {
         let Over { scene, ring } = self;
         let (table, stocks) = (&mut scene.table, &mut scene.stocks);
         let mut marks = Marks::default();
-        all_done(&mut scene.entry, scene.next, |entry| {
-            step(table, ring, &mut marks, stocks, entry)
+        timed(|| {
+            let answer = step(table, ring, &mut marks, stocks, &scene.entry);
+            assert_eq!(answer, scene.answer);
+            (scene.next)(table, &mut scene.entry);
         })
     }
 }
@@ -363,7 +409,7 @@ impl Kept {
         }
     }
 
-    /// A turn of steps that are done.
+    /// A turn of steps. The host has the table, so what is next may change the entry only.
     fn steps(&mut self) -> Duration {
         let Kept {
             scene,
@@ -372,16 +418,10 @@ impl Kept {
         } = self;
         let mut stocks = Stocks::over(&mut scene.stocks).expect("the scene's list is good");
         outbox.release(outbox.held());
-        all_done(&mut scene.entry, scene.next, |entry| {
-            host.offer(outbox, &mut stocks, entry).answer
+        timed(|| {
+            let told = host.offer(outbox, &mut stocks, &scene.entry);
+            assert_eq!(told.answer, scene.answer);
+            (scene.next)(&mut scene.table, &mut scene.entry);
         })
     }
-}
-
-/// A turn of steps that are done, each with the entry that is next to the last one's.
-fn all_done(entry: &mut [u8], next: fn(&mut [u8]), mut step: impl FnMut(&[u8]) -> u8) -> Duration {
-    timed(|| {
-        assert_eq!(step(entry), 0);
-        next(entry);
-    })
 }

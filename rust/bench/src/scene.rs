@@ -1,16 +1,21 @@
-//! What is measured on: tables with so many live orders, a short and a long list of stocks, and a
-//! legal message of each kind.
+//! What is measured on: tables with so many orders, a short and a long list of stocks, a legal message
+//! of each kind, and those that entries are made of.
 
+use pilaqsevi::HEADER_SIZE;
 use second::tapes::{Chance, message};
 use second::{echo, fresh, step};
 
+use crate::plain::{Record, used};
 use crate::race::CALLS_A_RACE;
 
 /// The table's records, of which some are used.
 const RECORDS: usize = 800;
 /// The stamp of all entries; an equal stamp is never too low.
 const STAMP: [u8; 8] = 1_u64.to_be_bytes();
-/// A list of the one stock that every order is in, and it trades.
+/// The firm and the stock of every order that isn't made another's.
+const FIRM: &[u8; 4] = b"ABCD";
+const STOCK: &[u8; 8] = b"IBM     ";
+/// A list of that stock alone, and it trades.
 const ONE_STOCK: &[u8; 9] = b"IBM     T";
 /// The price of every order and execution.
 const PRICE: [u8; 4] = 1_234_500_u32.to_be_bytes();
@@ -26,17 +31,19 @@ const SELF_MATCHED: u32 = 50_000;
 const FIRST_SIZE: u32 = MOST_SHARES - SELF_MATCHED - 1;
 const _: () = assert!(FIRST_SIZE - CALLS_A_RACE > EXECUTED);
 
-/// A table, a list, the token of the table's last used record, and an entry for that token that is
-/// done after a search of all used records. Changed a little, it is done again, and so on all through
-/// a race, so that no table is laid anew.
+/// A table, a list, the token of the table's last used record, and an entry for that record, which is
+/// done after a search of all used ones. With a little changed in it or in the table it is done again,
+/// and so on all through a race, so that no table is laid anew.
 #[derive(Clone)]
 pub struct Scene {
     pub table: Vec<u8>,
     pub stocks: Vec<u8>,
     pub token: [u8; 14],
     pub entry: Vec<u8>,
-    /// Makes of an entry that was done the next one.
-    pub next: fn(&mut [u8]),
+    /// What each call is answered: 0, but where nothing is left to be found.
+    pub answer: u8,
+    /// Makes table and entry ready for the next call.
+    pub next: fn(&mut [u8], &mut [u8]),
 }
 
 /// Which nine characters all tokens of a table share; in the other five each has its number.
@@ -44,6 +51,10 @@ pub struct Scene {
 pub enum Alike {
     /// A client's running number, as most have it.
     InFront,
+    #[cfg_attr(
+        not(any(weighed, test)),
+        expect(dead_code, reason = "only finds are measured on it")
+    )]
     AtTheEnd,
 }
 
@@ -63,6 +74,7 @@ impl Scene {
             stocks: ONE_STOCK.to_vec(),
             token,
             entry: modify,
+            answer: 0,
             next: change_side,
         }
     }
@@ -82,26 +94,77 @@ impl Scene {
             stocks: ONE_STOCK.to_vec(),
             token,
             entry: cancel,
+            answer: 0,
             next: lower_size,
         }
+    }
+
+    /// The same day and last order, but the entry is a w, which passes over all the others. For the
+    /// next one the order is made live again.
+    pub fn to_purge(used: usize) -> Scene {
+        let mut scene = Scene::to_cancel(used);
+        let earlier = records(&mut scene.table).iter_mut().take(used - 1);
+        for (order, record) in earlier.enumerate() {
+            pass_over(order, record);
+        }
+        scene.entry = [b"w".as_slice(), &STAMP, FIRM, STOCK].concat();
+        scene.next = revive;
+        scene
+    }
+
+    /// The same after its w, so that any further one is ignored.
+    pub fn purged(used: usize) -> Scene {
+        let mut scene = Scene::to_purge(used);
+        offer(&mut scene.table, &scene.entry);
+        scene.answer = 1;
+        scene.next = |_, _| ();
+        scene
     }
 }
 
 /// Makes the side of a Modify S where it was T, and T where it was S.
-fn change_side(modify: &mut [u8]) {
+fn change_side(_table: &mut [u8], modify: &mut [u8]) {
     modify[23] ^= b'S' ^ b'T';
 }
 
 /// Makes the intended size of a Cancel, which ends with it, one less.
-fn lower_size(cancel: &mut [u8]) {
+fn lower_size(_table: &mut [u8], cancel: &mut [u8]) {
     let size = cancel.last_chunk_mut().expect("a Cancel has a size");
     *size = (u32::from_be_bytes(*size) - 1).to_be_bytes();
+}
+
+/// Makes the last order live again, with what is left of the most shares open.
+fn revive(table: &mut [u8], _purge: &mut [u8]) {
+    let last = used(table).len() - 1;
+    let record = &mut records(table)[last];
+    record[0] = b'L';
+    record[16..20].copy_from_slice(&MOST_SHARES.to_be_bytes());
+}
+
+/// Makes an order one that a w passes over, for one of the four reasons in turn: it is another firm's,
+/// in another stock, late, or dead.
+fn pass_over(order: usize, record: &mut Record) {
+    match order % 4 {
+        0 => record[44..48].copy_from_slice(b"WXYZ"),
+        1 => record[28..36].copy_from_slice(b"AAPL    "),
+        2 => record[64] = 1,
+        _ => {
+            record[0] = b'D';
+            record[16..20].fill(0);
+        }
+    }
+}
+
+/// A table's records.
+fn records(table: &mut [u8]) -> &mut [Record] {
+    let (records, _) = table[HEADER_SIZE..].as_chunks_mut();
+    records
 }
 
 /// A table with so many live orders, of which the last has so many shares, and the token of that one.
 fn day(used: usize, alike: Alike, last_shares: u32) -> (Vec<u8>, [u8; 14]) {
     let mut table = vec![0; 64 + 80 * RECORDS];
-    assert_eq!(fresh(&mut table, 1_000_000, &[*b"ABCD"]), 0);
+    assert_eq!(fresh(&mut table, 1_000_000, &[*FIRM]), 0);
     offer(&mut table, &[b"s".as_slice(), &STAMP, b"S"].concat());
     for order in 1..used {
         offer(&mut table, &enter(&token(order, alike), SHARES));
@@ -111,11 +174,16 @@ fn day(used: usize, alike: Alike, last_shares: u32) -> (Vec<u8>, [u8; 14]) {
     (table, last)
 }
 
-/// An entry that the table takes, its message thrown away.
+/// An entry that the table takes.
 fn offer(table: &mut [u8], entry: &[u8]) {
+    assert_eq!(answer(table, entry), 0);
+}
+
+/// What an entry is answered; its message is thrown away.
+fn answer(table: &mut [u8], entry: &[u8]) -> u8 {
     let (mut at, mut held, mut stocks) = (0, 0, *ONE_STOCK);
     let told = step(table, &mut [0; 80], &mut at, &mut held, &mut stocks, entry);
-    assert_eq!(told.answer, 0);
+    told.answer
 }
 
 fn token(order: usize, alike: Alike) -> [u8; 14] {
@@ -133,10 +201,10 @@ fn enter(token: &[u8; 14], shares: u32) -> Vec<u8> {
     let body: [&[u8]; 9] = [
         b"S",
         &shares.to_be_bytes(),
-        b"IBM     ",
+        STOCK,
         &PRICE,
         &99_999_u32.to_be_bytes(),
-        b"ABCD",
+        FIRM,
         b"YPN",
         &[0; 4],
         b"N",
@@ -181,23 +249,40 @@ pub fn messages() -> Vec<(bool, Vec<u8>)> {
     found
 }
 
+/// A Mass Cancel of the purge port and a client's Enter, and whether each is the port's.
+pub fn requests() -> [(bool, Vec<u8>); 2] {
+    let reference = 1_u32.to_be_bytes();
+    let purge: [&[u8]; 6] = [b"M", &reference, FIRM, b"      ", STOCK, &[0; 2]];
+    let mut enter = enter(&token(1, Alike::InFront), SHARES);
+    enter.drain(1..9);
+    [(true, purge.concat()), (false, enter)]
+}
+
 #[cfg(test)]
 mod tests {
     use second::{Host, Outbox, Stocks};
 
-    use super::{Alike, CALLS_A_RACE, RECORDS, Scene, long_list, messages};
+    use super::{Alike, CALLS_A_RACE, FIRM, RECORDS, SHARES, STOCK, Scene};
+    use super::{enter, long_list, messages, requests, token};
     use crate::{list, plain};
 
-    /// Offers a scene's entry to its table, and makes the next one.
+    /// Offers a scene's entry to its table, and makes both ready for the next call.
     fn play(scene: &mut Scene) {
-        super::offer(&mut scene.table, &scene.entry);
-        (scene.next)(&mut scene.entry);
+        let answer = super::answer(&mut scene.table, &scene.entry);
+        assert_eq!(answer, scene.answer);
+        (scene.next)(&mut scene.table, &mut scene.entry);
     }
 
     #[test]
     fn a_scene_is_sound_and_its_last_order_is_found() {
         for used in [1, 100, RECORDS] {
-            for scene in [Scene::new(used), Scene::to_cancel(used)] {
+            let scenes = [
+                Scene::new(used),
+                Scene::to_cancel(used),
+                Scene::to_purge(used),
+                Scene::purged(used),
+            ];
+            for scene in scenes {
                 assert!(plain::judge(&scene.table) && list::judge(&scene.stocks));
                 assert_eq!(plain::find(&scene.table, &scene.token), Some(used - 1));
             }
@@ -226,9 +311,53 @@ mod tests {
             let told = host.offer(&mut outbox, &mut stocks, &scene.entry);
             assert_eq!((told.answer, outbox.held()), (0, 28));
             outbox.release(28);
-            (scene.next)(&mut scene.entry);
+            (scene.next)(&mut scene.table, &mut scene.entry);
         }
         assert_eq!(host.image()[64], b'L');
+    }
+
+    #[test]
+    fn purges_go_on_for_ever() {
+        for used in [1, 2, 3, 4, 5, RECORDS] {
+            for mut scene in [Scene::to_purge(used), Scene::purged(used)] {
+                let first = scene.clone();
+                for _ in 0..3 {
+                    play(&mut scene);
+                    assert!((&scene.table, &scene.entry) == (&first.table, &first.entry));
+                }
+            }
+        }
+    }
+
+    #[test]
+    fn a_purge_ends_the_last_order_alone() {
+        for used in [1, 2, 3, 4, 5, RECORDS] {
+            let (before, after) = (Scene::to_purge(used), Scene::purged(used));
+            let last = 64 + 80 * (used - 1);
+            assert!(before.table[..last] == after.table[..last]);
+            assert_eq!((before.table[last], after.table[last]), (b'L', b'D'));
+        }
+    }
+
+    #[test]
+    fn a_purge_passes_over_orders_for_one_reason_each() {
+        let Scene { table, .. } = Scene::to_purge(RECORDS);
+        let mut passed = [0; 4];
+        for record in &plain::used(&table)[..RECORDS - 1] {
+            let reasons = [
+                record[0] == b'D',
+                record[64] == 1,
+                record[44..48] != *FIRM,
+                record[28..36] != *STOCK,
+            ];
+            let reasons = reasons.map(u32::from);
+            assert_eq!(reasons.iter().sum::<u32>(), 1);
+            passed
+                .iter_mut()
+                .zip(reasons)
+                .for_each(|(times, so)| *times += so);
+        }
+        assert_eq!(passed, [199, 200, 200, 200]);
     }
 
     #[test]
@@ -256,5 +385,16 @@ mod tests {
     fn there_is_a_message_of_each_kind() {
         let kinds: Vec<u8> = messages().iter().map(|(_, message)| message[0]).collect();
         assert_eq!(kinds, b"MOUXABCDEIJMPSTU");
+    }
+
+    #[test]
+    fn requests_become_entries_of_a_scene() {
+        let enter = enter(&token(1, Alike::InFront), SHARES);
+        let entries = [Scene::to_purge(1).entry, enter];
+        for ((purge, message), right) in requests().into_iter().zip(entries) {
+            let mut entry = vec![0; right.len()];
+            assert_eq!(second::entry(purge, 1, &message, &mut entry).answer, 0);
+            assert_eq!(entry, right);
+        }
     }
 }

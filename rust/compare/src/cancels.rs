@@ -4,6 +4,7 @@
 use std::fmt::{self, Display, Formatter};
 use std::ops::Range;
 
+use crate::counts;
 use crate::records::{number, row};
 
 /// Where an entry has its token and a Cancel its size.
@@ -86,16 +87,12 @@ pub struct Sizes(pub [u64; COUNTED.len()]);
 impl Sizes {
     /// Counts one that was answered from a sound table.
     pub fn count(&mut self, cancel: &Cancel) {
-        for (count, counted) in self.0.iter_mut().zip(cancel.counted()) {
-            *count += u64::from(counted);
-        }
+        counts::add(&mut self.0, &cancel.counted());
     }
 }
 
 impl Display for Sizes {
     fn fmt(&self, f: &mut Formatter) -> fmt::Result {
-        let counts = COUNTED.iter().zip(self.0);
-        let listed = counts.map(|(what, count)| format!("{what}: {count}"));
-        write!(f, "{}", listed.collect::<Vec<_>>().join(", "))
+        f.write_str(&counts::listed(COUNTED.into_iter().zip(self.0)))
     }
 }

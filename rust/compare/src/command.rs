@@ -26,6 +26,8 @@ pub enum Command {
     Read,
     /// Reads a message and writes it back.
     Echo(Echo),
+    /// Makes an entry of a message.
+    Make(Making),
 }
 
 /// What a fresh call is given. The count may be above the places, which is a bad setting.
@@ -40,6 +42,17 @@ pub struct Settings {
 #[derive(Clone, Debug, PartialEq, Eq)]
 pub struct Echo {
     pub inbound: bool,
+    pub message: Vec<u8>,
+    pub out_len: usize,
+    pub fill: u8,
+}
+
+/// A message, the purge port's or a client's, and the stamp of its entry, for which there is a buffer
+/// of so many bytes, all `fill`.
+#[derive(Clone, Debug, PartialEq, Eq)]
+pub struct Making {
+    pub purge: bool,
+    pub stamp: u64,
     pub message: Vec<u8>,
     pub out_len: usize,
     pub fill: u8,
@@ -63,13 +76,32 @@ impl Display for Command {
             Command::Step(entry) => write!(f, "step {}", hex(entry)),
             Command::Release(k) => write!(f, "release {k}"),
             Command::Read => write!(f, "read"),
-            Command::Echo(echo) => {
-                let way = if echo.inbound { "inbound" } else { "outbound" };
-                let Echo { out_len, fill, .. } = echo;
-                let message = hex(&echo.message);
-                write!(f, "echo {way} {message} into {out_len} bytes of {fill:02x}")
-            }
+            Command::Echo(echo) => write!(f, "{echo}"),
+            Command::Make(making) => write!(f, "{making}"),
         }
+    }
+}
+
+impl Display for Echo {
+    fn fmt(&self, f: &mut Formatter) -> fmt::Result {
+        let way = if self.inbound { "inbound" } else { "outbound" };
+        let Echo { out_len, fill, .. } = self;
+        let message = hex(&self.message);
+        write!(f, "echo {way} {message} into {out_len} bytes of {fill:02x}")
+    }
+}
+
+impl Display for Making {
+    fn fmt(&self, f: &mut Formatter) -> fmt::Result {
+        let whose = if self.purge {
+            "the port's"
+        } else {
+            "a client's"
+        };
+        let (stamp, message) = (self.stamp, hex(&self.message));
+        write!(f, "entry of {whose} {message} at {stamp} ")?;
+        let Making { out_len, fill, .. } = self;
+        write!(f, "into {out_len} bytes of {fill:02x}")
     }
 }
 

@@ -2,7 +2,7 @@
 
 use pilaqsevi::Marks;
 
-use crate::command::{Command, Settings};
+use crate::command::{Command, Making, Settings};
 use crate::host::{Host, Told};
 
 /// What stands between commands; at the start there is nothing. The door's own desk is always
@@ -52,6 +52,7 @@ impl Desk {
                 tell(host.echo(echo.inbound, &echo.message, &mut out), left);
                 left.extend(out);
             }
+            Command::Make(making) => made(host, making, left),
         }
     }
 
@@ -77,6 +78,19 @@ impl Desk {
         left.extend((self.marks.at as u64).to_be_bytes());
         left.extend((self.marks.held as u64).to_be_bytes());
     }
+}
+
+/// Has the host make an entry, and appends what that left.
+fn made(host: &impl Host, making: &Making, left: &mut Vec<u8>) {
+    let Making {
+        purge,
+        stamp,
+        message,
+        ..
+    } = making;
+    let mut out = vec![making.fill; making.out_len];
+    tell(host.entry(*purge, *stamp, message, &mut out), left);
+    left.extend(out);
 }
 
 /// The answer, and the place in eight bytes.

@@ -62,6 +62,7 @@ impl Difference {
             (Command::Release(_), _) | (Command::Step(_), 17..25) => "the held count".into(),
             (_, 1..9) => "the place of the bad byte".into(),
             (Command::Echo(_), _) => format!("the written message, byte {}", place - 9),
+            (Command::Make(_), _) => format!("the made entry, byte {}", place - 9),
             (_, _) if place - 25 < table => in_table(place - 25),
             (_, _) if place - 25 - table < ring => format!("the ring, byte {}", place - 25 - table),
             (_, _) => in_stocks(place - 25 - table - ring),

@@ -5,29 +5,29 @@
 //! the desk is read and released, damaged and mended.
 
 use pilaqsevi::Marks;
-use second::tapes::{Chance, Tapes, damage, good_list, message, settings, sound_table, worn_out};
+use second::tapes::{
+    Chance, Tapes, damage, good_list, message, request, settings, sound_table, worn_out,
+};
 
-use crate::alike::Alike;
-use crate::cancels::Cancel;
-use crate::command::{Command, Echo, Settings};
+use crate::command::{Command, Echo, Making, Settings};
 use crate::desk::Desk;
 use crate::difference::Difference;
 use crate::host::Second;
+use crate::meant::Meant;
 use crate::records::{HEADER_LEN, RECORD_LEN};
 use crate::sinks::Sink;
 use crate::tally::Tally;
 
 /// The answers that the driver itself acts on.
 const DONE: u8 = 0;
-const IGNORED: u8 = 1;
 const BLOCKED: u8 = 9;
-/// Those that are given before a token is looked for.
-const NOT_LOOKED_FOR: [u8; 6] = [10, 11, 14, 2, 3, 4];
 /// The most records of a table.
 const MOST_RECORDS: usize = 800;
 /// The longest ring, and the longest entry and message that are tried: longer than any kind has.
 const LONGEST_RING: usize = 65_536;
 const LONGEST_TRIED: usize = 1_024;
+/// The first stamp that isn't legal.
+const STAMPS_END: u64 = 86_400_000_000_000;
 /// What the steps of a usual day may come to in bytes, since each shows the whole table, ring and
 /// list, and about what one over short ones shows.
 const DAY: usize = 200_000;
@@ -115,6 +115,7 @@ impl<S: Sink> Driver<S> {
             6..=8 => self.spoil_stocks(tapes),
             9 => self.fresh_aside(),
             10..=34 => self.echo(),
+            35..=46 => self.make(),
             _ => Ok(()),
         }
     }
@@ -344,7 +345,45 @@ impl<S: Sink> Driver<S> {
         if self.chance.one_in(200) {
             message.resize(self.chance.place(LONGEST_TRIED + 1), b' ');
         }
-        let len = message.len();
+        let (out_len, fill) = self.buffer_for(message.len());
+        self.give(&Command::Echo(Echo {
+            inbound,
+            message,
+            out_len,
+            fill,
+        }))?;
+        Ok(())
+    }
+
+    /// A message of a client or of the purge port to make an entry of, at any stamp, with buffers
+    /// around the entry's length.
+    fn make(&mut self) -> Told<()> {
+        let (purge, mut message) = request(&mut self.chance);
+        if self.chance.one_in(200) {
+            message.resize(self.chance.place(LONGEST_TRIED + 1), b' ');
+        }
+        let len = match (purge, message.first()) {
+            (false, _) => message.len() + 8,
+            (true, Some(b'M')) => 21,
+            (true, _) => 13,
+        };
+        let (out_len, fill) = self.buffer_for(len);
+        let any = self.chance.number();
+        let stamp = self
+            .chance
+            .pick(&[0, any, any >> 20, STAMPS_END - 1, STAMPS_END, u64::MAX]);
+        self.give(&Command::Make(Making {
+            purge,
+            stamp,
+            message,
+            out_len,
+            fill,
+        }))?;
+        Ok(())
+    }
+
+    /// The length of a buffer for so many bytes, which is often too short, and what fills it.
+    fn buffer_for(&mut self, len: usize) -> (usize, u8) {
         let out_len = match self.chance.below(10) {
             0 => 0,
             1 => len.saturating_sub(1),
@@ -353,14 +392,7 @@ impl<S: Sink> Driver<S> {
             4..=6 => len,
             _ => len + self.chance.place(24),
         };
-        let fill = self.chance.pick(&[0, 0x55, b' ', 0xff]);
-        self.give(&Command::Echo(Echo {
-            inbound,
-            message,
-            out_len,
-            fill,
-        }))?;
-        Ok(())
+        (out_len, self.chance.pick(&[0, 0x55, b' ', 0xff]))
     }
 
     /// Bytes of no meaning: all alike, or at random.
@@ -375,24 +407,19 @@ impl<S: Sink> Driver<S> {
     fn give(&mut self, command: &Command) -> Told<u8> {
         self.expected.clear();
         let held = self.desk.marks.held;
-        let table = &self.desk.table;
-        let (alike, cancel) = match command {
-            Command::Step(entry) => (Alike::of(entry, table), Cancel::of(entry, table)),
-            _ => (Alike::default(), None),
+        let offered = match command {
+            Command::Step(entry) => Some((entry, Meant::of(entry, &self.desk.table))),
+            _ => None,
         };
         self.desk.obey(&Second, command, &mut self.expected);
         self.tally.count(command, &self.expected);
         self.sink.take(command, &self.expected)?;
         let answer = self.expected.first().copied().unwrap_or(DONE);
-        if let (Command::Step(entry), DONE) = (command, answer) {
-            self.tally.count_done(entry, &self.desk.sent_since(held));
-        }
-        if !NOT_LOOKED_FOR.contains(&answer) {
-            self.tally.count_alike(&alike);
-        }
-        // A blocked one comes again.
-        if let (Some(cancel), DONE | IGNORED) = (cancel, answer) {
-            self.tally.count_cancel(&cancel);
+        if let Some((entry, meant)) = offered {
+            self.tally.count_meant(entry, &meant, answer);
+            if answer == DONE {
+                self.tally.count_done(entry, &self.desk.sent_since(held));
+            }
         }
         Ok(answer)
     }

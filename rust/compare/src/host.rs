@@ -1,9 +1,10 @@
-//! A host as the comparison sees it: five calls over bytes, and the two hosts that have them.
+//! A host as the comparison sees it: six calls over bytes, and the two hosts that have them.
 
 use pilaqsevi::{Answer, Marks};
 pub use second::Told;
 
-/// The paper's calls; an answer is the paper's number, and a step and an echo tell a place with it.
+/// The paper's calls; an answer is the paper's number, and a step, an echo and the making of an entry
+/// tell a place with it.
 pub trait Host {
     fn fresh(&self, table: &mut [u8], threshold: u32, firms: &[[u8; 4]]) -> u8;
     fn step(
@@ -17,6 +18,7 @@ pub trait Host {
     fn read<'a>(&self, ring: &'a [u8], marks: Marks) -> &'a [u8];
     fn release(&self, ring_len: usize, marks: &mut Marks, k: usize) -> u8;
     fn echo(&self, inbound: bool, message: &[u8], out: &mut [u8]) -> Told;
+    fn entry(&self, purge: bool, stamp: u64, message: &[u8], out: &mut [u8]) -> Told;
 }
 
 /// The second host, which says what is right.
@@ -48,6 +50,10 @@ impl Host for Second {
 
     fn echo(&self, inbound: bool, message: &[u8], out: &mut [u8]) -> Told {
         second::echo(inbound, message, out)
+    }
+
+    fn entry(&self, purge: bool, stamp: u64, message: &[u8], out: &mut [u8]) -> Told {
+        second::entry(purge, stamp, message, out)
     }
 }
 
@@ -87,6 +93,10 @@ impl Host for Proved {
 
     fn echo(&self, inbound: bool, message: &[u8], out: &mut [u8]) -> Told {
         told(pilaqsevi::echo(inbound, message, out))
+    }
+
+    fn entry(&self, purge: bool, stamp: u64, message: &[u8], out: &mut [u8]) -> Told {
+        told(pilaqsevi::entry(purge, stamp, message, out))
     }
 }
 

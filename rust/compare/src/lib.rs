@@ -7,17 +7,21 @@
 #![forbid(unsafe_code)]
 
 mod alike;
+mod blocks;
 mod cancels;
 mod command;
+mod counts;
 mod desk;
 mod difference;
 mod driver;
 mod host;
+mod meant;
+mod purges;
 pub mod records;
 mod sinks;
 mod tally;
 
-pub use command::{Command, Echo, Settings};
+pub use command::{Command, Echo, Making, Settings};
 pub use desk::Desk;
 pub use difference::Difference;
 pub use driver::Driver;

@@ -1,17 +1,25 @@
 //! A tally of a script: how many calls of each kind, how often each answer was right, at how many
-//! places a byte was bad, what was done, how often tokens were nearly alike, and to what sizes orders
-//! with self-matched shares were cancelled.
+//! places a byte was bad, what was done, ignored and rejected, how often tokens were nearly alike, to
+//! what sizes orders with self-matched shares were cancelled, and what purges and blocks found.
 
 use std::collections::{BTreeMap, BTreeSet};
 use std::fmt::{self, Display, Formatter};
 
 use crate::alike::Alike;
-use crate::cancels::{Cancel, Sizes};
+use crate::blocks::Blocks;
+use crate::cancels::Sizes;
 use crate::command::Command;
+use crate::counts::listed;
+use crate::meant::Meant;
+use crate::purges::Purges;
 
 /// The answers that a call can give, and the one that has a place.
-const ANSWERS: usize = 15;
+const ANSWERS: usize = 16;
 const BAD_FIELD: usize = 3;
+/// Those that a rule gives, and those that are given before a token is looked for.
+const DONE: u8 = 0;
+const IGNORED: u8 = 1;
+const NOT_LOOKED_FOR: [u8; 7] = [10, 11, 14, 2, 3, 4, 15];
 
 /// What has been asked and answered so far.
 #[derive(Clone, Debug, Default, PartialEq, Eq)]
@@ -20,14 +28,18 @@ pub struct Tally {
     pub freshes: [u64; ANSWERS],
     pub releases: [u64; ANSWERS],
     pub echoes: [u64; ANSWERS],
+    pub makings: [u64; ANSWERS],
     pub reads: u64,
     /// The bad bytes that steps told, each by the entry's kind and its place.
     pub entry_places: BTreeSet<(u8, u64)>,
     /// Those that echoes told, each by whether the message was inbound, its type and its place.
     pub message_places: BTreeSet<(bool, u8, u64)>,
-    /// The done entries by their kinds.
+    /// Those that makings of entries told, each by whether the message was the purge port's.
+    pub making_places: BTreeSet<(bool, u8, u64)>,
+    /// The done entries by their kinds, and the ignored ones.
     pub done: BTreeMap<String, u64>,
-    /// The Rejected messages that they sent, by kind and reason.
+    pub ignored: BTreeMap<String, u64>,
+    /// The Rejected messages that the done ones sent, by kind and reason.
     pub rejects: BTreeMap<String, u64>,
     /// The entries that named a token of which a record with another one has the first nine
     /// characters, the last nine, or all but one.
@@ -39,6 +51,11 @@ pub struct Tally {
     /// The Cancels of orders that have self-matched shares, and those of late ones among them.
     pub cancels: Sizes,
     pub late_cancels: Sizes,
+    /// The w that found an order, and those that found none left.
+    pub purges: Purges,
+    pub vain_purges: Purges,
+    /// What d and n set and cleared, and what that did to orders.
+    pub blocks: Blocks,
     /// What the calls left in all, every byte of which was compared.
     pub bytes: u64,
 }
@@ -63,6 +80,12 @@ impl Tally {
                     self.message_places.insert((echo.inbound, letter, place));
                 }
             }
+            Command::Make(making) => {
+                self.makings[answer] += 1;
+                if let Some((letter, place)) = bad_byte(&making.message, expected) {
+                    self.making_places.insert((making.purge, letter, place));
+                }
+            }
             Command::Read => self.reads += 1,
             Command::Table(_) | Command::Ring { .. } | Command::Stocks(_) => {}
         }
@@ -78,20 +101,38 @@ impl Tally {
         }
     }
 
+    /// Counts what an entry meant that was answered so. A blocked one comes again, and is counted for
+    /// its tokens alone.
+    pub fn count_meant(&mut self, entry: &[u8], meant: &Meant, answer: u8) {
+        if !NOT_LOOKED_FOR.contains(&answer) {
+            self.count_alike(&meant.alike);
+        }
+        if answer == IGNORED {
+            let kind = entry.first().copied().map_or('?', char::from);
+            *self.ignored.entry(kind.to_string()).or_default() += 1;
+        }
+        if let (Some(cancel), DONE | IGNORED) = (&meant.cancel, answer) {
+            self.cancels.count(cancel);
+            if cancel.late {
+                self.late_cancels.count(cancel);
+            }
+        }
+        match (&meant.purge, answer) {
+            (Some(purge), DONE) => self.purges.count(purge),
+            (Some(purge), IGNORED) => self.vain_purges.count(purge),
+            _ => {}
+        }
+        if let (Some(block), DONE) = (&meant.block, answer) {
+            self.blocks.count(block);
+        }
+    }
+
     /// Counts how nearly the tokens of an entry that was judged good were a record's.
-    pub fn count_alike(&mut self, alike: &Alike) {
+    fn count_alike(&mut self, alike: &Alike) {
         self.alike_in_front += u64::from(alike.in_front);
         self.alike_at_the_end += u64::from(alike.at_the_end);
         self.alike_but_for_one += u64::from(!alike.apart_at.is_empty());
         self.apart_at.extend(&alike.apart_at);
-    }
-
-    /// Counts a Cancel of an order that has self-matched shares.
-    pub fn count_cancel(&mut self, cancel: &Cancel) {
-        self.cancels.count(cancel);
-        if cancel.late {
-            self.late_cancels.count(cancel);
-        }
     }
 
     /// How many entries were offered, blocked ones counted each time.
@@ -114,23 +155,19 @@ impl Display for Tally {
             ("freshes", &self.freshes, 0),
             ("releases", &self.releases, 0),
             ("echoes", &self.echoes, self.message_places.len()),
+            ("entries made", &self.makings, self.making_places.len()),
         ] {
-            write!(f, "{} {what} (", answers.iter().sum::<u64>())?;
-            let given = answers.iter().enumerate().filter(|(_, count)| **count > 0);
-            let listed: Vec<String> = given
-                .map(|(answer, count)| match places {
-                    1.. if answer == BAD_FIELD => format!("{answer}: {count} at {places} places"),
-                    _ => format!("{answer}: {count}"),
-                })
-                .collect();
-            write!(f, "{}), ", listed.join(", "))?;
+            let calls: u64 = answers.iter().sum();
+            write!(f, "{calls} {what} ({}), ", by_answer(answers, places))?;
         }
         write!(f, "{} reads; ", self.reads)?;
-        for (what, counts) in [("done", &self.done), ("rejected", &self.rejects)] {
-            let listed = counts
-                .iter()
-                .map(|(what, count)| format!("{what}: {count}"));
-            write!(f, "{what} ({}), ", listed.collect::<Vec<_>>().join(", "))?;
+        for (what, counts) in [
+            ("done", &self.done),
+            ("ignored", &self.ignored),
+            ("rejected", &self.rejects),
+        ] {
+            let counts = counts.iter().map(|(what, &count)| (what, count));
+            write!(f, "{what} ({}), ", listed(counts))?;
         }
         write!(
             f,
@@ -142,9 +179,20 @@ impl Display for Tally {
         )?;
         write!(
             f,
-            "cancels after self matches ({}), late ones ({}), ",
-            self.cancels, self.late_cancels
+            "cancels after self matches ({}), late ones ({}), purges ({}), with none left ({}), \
+             blocks ({}), ",
+            self.cancels, self.late_cancels, self.purges, self.vain_purges, self.blocks
         )?;
         write!(f, "{} bytes compared", self.bytes)
     }
+}
+
+/// The answers that were given and how often; 3 with the number of its places, where it has any.
+fn by_answer(answers: &[u64; ANSWERS], places: usize) -> String {
+    let given = answers.iter().enumerate().filter(|(_, count)| **count > 0);
+    let given = given.map(|(answer, count)| match places {
+        1.. if answer == BAD_FIELD => format!("{answer}: {count} at {places} places"),
+        _ => format!("{answer}: {count}"),
+    });
+    given.collect::<Vec<_>>().join(", ")
 }

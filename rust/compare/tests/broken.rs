@@ -16,6 +16,7 @@ const SEED: u64 = 3;
 
 /// Where things stand in tables and entries, as the paper counts.
 const FLAGS_AT: usize = 64;
+const BLOCKS_AT: usize = 3;
 const ENTRY_SHARES: std::ops::Range<usize> = 37..41;
 
 #[derive(Clone, Copy, Debug, PartialEq)]
@@ -38,6 +39,7 @@ enum Fault {
     ReadsAcrossTheEnd,
     TakesNineFirms,
     LeavesUnusedRecords,
+    LeavesTheBlocks,
     ClearsBehindTheMessage,
     WritesBeforeAskingForRoom,
     TellsATokensFirstByte,
@@ -51,7 +53,7 @@ enum Fault {
     KeepsThePlaceWithTheNextAnswer,
 }
 
-const FAULTS: [Fault; 20] = [
+const FAULTS: [Fault; 21] = [
     Fault::DropsTheOldest,
     Fault::WritesHalfOfOne,
     Fault::StoresTheTokenFirst,
@@ -70,6 +72,7 @@ const FAULTS: [Fault; 20] = [
     Fault::ReadsAcrossTheEnd,
     Fault::TakesNineFirms,
     Fault::LeavesUnusedRecords,
+    Fault::LeavesTheBlocks,
     Fault::ClearsBehindTheMessage,
     Fault::WritesBeforeAskingForRoom,
 ];
@@ -240,6 +243,8 @@ fn bad_fields(bytes: &[u8], fields: &[Field]) -> Vec<Bad> {
                 let price = u32::from_be_bytes(*from.first_chunk()?);
                 first_byte((1..=1_999_999_900).contains(&price))
             }
+            Judged::Blank => first_byte(from.first_chunk::<6>()? == b"      "),
+            Judged::Zero => first_byte(from.first_chunk::<2>()? == &[0; 2]),
         };
         let place = at + byte?;
         Some(Bad { at, place, judged })
@@ -253,10 +258,14 @@ impl Host for Broken {
             [eight @ .., _] if self.has(Fault::TakesNineFirms) && firms.len() == 9 => eight,
             _ => firms,
         };
-        let kept = table.get(HEADER_LEN..).map(<[u8]>::to_vec);
+        let kept = table.to_vec();
         let answer = Second.fresh(table, threshold, firms);
-        if let (true, Some(kept)) = (self.has(Fault::LeavesUnusedRecords), kept) {
-            table[HEADER_LEN..].copy_from_slice(&kept);
+        match self.fault {
+            Some(Fault::LeavesUnusedRecords) if answer == 0 => {
+                table[HEADER_LEN..].copy_from_slice(&kept[HEADER_LEN..]);
+            }
+            Some(Fault::LeavesTheBlocks) if answer == 0 => table[BLOCKS_AT] = kept[BLOCKS_AT],
+            _ => {}
         }
         answer
     }
@@ -318,6 +327,10 @@ impl Host for Broken {
         }
         let letter = message.first().copied().unwrap_or(0);
         self.misplace(told, message, of_message(inbound, letter))
+    }
+
+    fn entry(&self, purge: bool, stamp: u64, message: &[u8], out: &mut [u8]) -> Told {
+        Second.entry(purge, stamp, message, out)
     }
 }
 

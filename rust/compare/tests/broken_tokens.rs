@@ -9,7 +9,7 @@ use compare::records::number;
 use compare::{Desk, Difference, Second, Told};
 
 /// The answers that are given before a token is looked for.
-const NOT_LOOKED_FOR: [u8; 6] = [10, 11, 14, 2, 3, 4];
+const NOT_LOOKED_FOR: [u8; 7] = [10, 11, 14, 2, 3, 4, 15];
 
 type Token = [u8; 14];
 
@@ -86,10 +86,10 @@ fn hidden(place: usize) -> Token {
         .expect("six letters and eight digits")
 }
 
-/// The tokens that an entry names: a Replace two, h and s none.
+/// The tokens that an entry names: a Replace two; h, s, w, d and n none.
 fn wanted(entry: &[u8]) -> Vec<Token> {
     let places: &[usize] = match entry[0] {
-        b's' | b'h' => &[],
+        b's' | b'h' | b'w' | b'd' | b'n' => &[],
         b'U' => &[9, 23],
         _ => &[9],
     };

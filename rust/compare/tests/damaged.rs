@@ -225,7 +225,7 @@ fn case(chance: &mut Chance, tapes: &mut Tapes) -> (Desk, Vec<u8>) {
 #[cfg_attr(not(archive), ignore = "no archive of the proved functions is linked")]
 fn damage_at_random_is_answered_alike_and_changes_nothing() {
     let proved = Proved::linked().unwrap();
-    let mut answered = [0; 15];
+    let mut answered = [0; 16];
     for seed in 1..=4 {
         let (mut chance, mut tapes) = (Chance::new(seed), Tapes::new(seed));
         for _ in 0..25_000 {
@@ -250,7 +250,7 @@ fn damage_at_random_is_answered_alike_and_changes_nothing() {
             released_alike(&proved, &desk, &mut chance);
         }
     }
-    for answer in [0, 1, 2, 3, 4, 5, 7, 8, 9, 10, 11, 14] {
+    for answer in [0, 1, 2, 3, 4, 5, 7, 8, 9, 10, 11, 14, 15] {
         assert!(answered[answer] > 100, "{answered:?}");
     }
 }

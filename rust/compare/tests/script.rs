@@ -4,7 +4,7 @@ use std::collections::BTreeSet;
 
 use compare::{Command, Desk, Difference, Driver, Second, Sink};
 use pilaqsevi::Marks;
-use second::tapes::judged::{self, places};
+use second::tapes::judged::{self, Field, places};
 
 /// All commands of a script.
 #[derive(Default)]
@@ -49,6 +49,11 @@ impl Sink for &mut Seen {
                 let kind = char::from(echo.message.first().copied().unwrap_or(b'?'));
                 let inbound = echo.inbound;
                 self.what.insert(format!("E {inbound} {kind} {answer}"));
+            }
+            Command::Make(making) => {
+                let kind = char::from(making.message.first().copied().unwrap_or(b'?'));
+                let purge = making.purge;
+                self.what.insert(format!("M {purge} {kind} {answer}"));
             }
             Command::Fresh(_) => _ = self.what.insert(format!("F {answer}")),
             Command::Release(_) => _ = self.what.insert(format!("L {answer}")),
@@ -143,6 +148,9 @@ fn answers_by_kind() -> Vec<String> {
         ('f', &[5, 7, 9]),
         ('s', &[7, 9]),
         ('h', &[5]),
+        ('w', &[15, 1, 9]),
+        ('d', &[15]),
+        ('n', &[15]),
     ] {
         let always = [0, 2, 3, 4, 10, 11, 14];
         let all = always.iter().chain(answers);
@@ -153,9 +161,9 @@ fn answers_by_kind() -> Vec<String> {
 
 /// Every message that an entry can send, by its reason where it has one.
 fn messages_by_kind() -> Vec<String> {
-    let sends =
-        "O A /U JC/U JR/U JH/U CU/U U /X CU/X P /X I /M M /e E /q D /p T /l - /f - /f CU/s S /h - ";
-    let rejects = "CLSHRDXZN".chars().map(|reason| format!("O J{reason}"));
+    let sends = "O A /U JC/U JR/U JH/U CU/U U /X CU/X P /X I /M M /e E /q D /p T /l - /f - /f CU/\
+                 s S /h - /w CU/d - /n - ";
+    let rejects = "CLaSHRDXZN".chars().map(|reason| format!("O J{reason}"));
     let cancels = "ITSDZE".chars().map(|reason| format!("c C{reason}"));
     let sends = sends.split('/').map(String::from);
     sends.chain(rejects).chain(cancels).collect()
@@ -206,10 +214,27 @@ fn echoes() -> Vec<String> {
         .collect()
 }
 
+/// All messages of which entries are made, with each answer that this has.
+fn makings() -> Vec<String> {
+    let client = "OUXM".chars().map(|kind| (false, kind));
+    let port = "MDE".chars().map(|kind| (true, kind));
+    let kinds = client.chain(port);
+    kinds
+        .flat_map(|(purge, kind)| [0, 2, 3, 13].map(|answer| format!("M {purge} {kind} {answer}")))
+        .collect()
+}
+
 #[test]
 fn a_script_reaches_every_answer_message_and_reason() {
-    let seen = seen(1, 60_000);
-    let mut wanted = [answers_by_kind(), messages_by_kind(), stocks(), echoes()].concat();
+    let seen = seen(1, 100_000);
+    let mut wanted = [
+        answers_by_kind(),
+        messages_by_kind(),
+        stocks(),
+        echoes(),
+        makings(),
+    ]
+    .concat();
     wanted.extend("AUCDEJPITM".chars().map(|letter| format!("{letter} wraps")));
     wanted.extend((1..=8).map(|records| format!("records {records}")));
     wanted.extend(["records 800", "ring full"].map(String::from));
@@ -228,31 +253,47 @@ impl Sink for Unheard {
     }
 }
 
-/// Every byte of every kind and message that can be told as bad: each character of a token, and the
-/// first byte of what is bad as a whole.
+/// Every byte of every kind, of every message and of every message made into an entry that can be
+/// told as bad: each character of a token, and the first byte of what is bad as a whole.
 #[test]
 fn a_script_reaches_every_place() {
     let tally = Driver::drive(1, 200_000, Unheard).unwrap();
-    let mut unseen = Vec::new();
-    for &kind in judged::ENTRIES {
-        let places = places(judged::of_entry(kind)).into_iter();
-        unseen.extend(places.map(|place| (None, kind, place as u64)));
-    }
-    let inbound = judged::INBOUND.iter().map(|&letter| (true, letter));
-    let outbound = judged::OUTBOUND.iter().map(|&letter| (false, letter));
-    for (inbound, letter) in inbound.chain(outbound) {
-        let places = places(judged::of_message(inbound, letter)).into_iter();
-        unseen.extend(places.map(|place| (Some(inbound), letter, place as u64)));
-    }
-    assert_eq!(unseen.len(), 176 + 254);
-    unseen.retain(|&(echoed, kind, place)| match echoed {
-        None => !tally.entry_places.contains(&(kind, place)),
-        Some(inbound) => !tally.message_places.contains(&(inbound, kind, place)),
-    });
-    assert!(unseen.is_empty(), "never seen: {unseen:?}");
     let told = tally.to_string();
-    assert!(told.contains(" at 176 places"), "{told}");
-    assert!(told.contains(" at 254 places"), "{told}");
+    let of_entry = |&kind: &u8| (kind, judged::of_entry(kind));
+    let entries = all_places(judged::ENTRIES.iter().map(of_entry));
+    let inbound = |&letter: &u8| ((true, letter), judged::of_message(true, letter));
+    let outbound = |&letter: &u8| ((false, letter), judged::of_message(false, letter));
+    let request = |&letter: &u8| ((true, letter), judged::of_request(letter));
+    let client = |&letter: &u8| ((false, letter), judged::of_message(true, letter));
+    let messages = judged::INBOUND.iter().map(inbound);
+    let messages = all_places(messages.chain(judged::OUTBOUND.iter().map(outbound)));
+    let makings = judged::PORT.iter().map(request);
+    let makings = all_places(makings.chain(judged::INBOUND.iter().map(client)));
+    let seen = tally.entry_places.iter().copied();
+    assert!(entries.into_iter().eq(seen), "{told}");
+    let flat = |&(way, letter, place): &(bool, u8, u64)| ((way, letter), place);
+    assert!(
+        messages
+            .into_iter()
+            .eq(tally.message_places.iter().map(flat)),
+        "{told}"
+    );
+    assert!(
+        makings.into_iter().eq(tally.making_places.iter().map(flat)),
+        "{told}"
+    );
+    for places in [" at 179 places", " at 254 places", " at 78 places"] {
+        assert!(told.contains(places), "{told}");
+    }
+}
+
+/// Every place at which each of these can be bad, in order.
+fn all_places<K: Copy + Ord>(
+    kinds: impl Iterator<Item = (K, &'static [Field])>,
+) -> BTreeSet<(K, u64)> {
+    kinds
+        .flat_map(|(kind, fields)| places(fields).into_iter().map(move |at| (kind, at as u64)))
+        .collect()
 }
 
 /// Orders are mostly accepted as before, and yet often rejected for their stocks.
@@ -298,6 +339,29 @@ fn a_script_often_cancels_orders_with_self_matched_shares() {
         tally.cancels.0[0]
     );
     assert!(told.contains(&cancels), "{told}");
+}
+
+/// A w finds its order behind each kind of order that it passes over, or finds none left behind them;
+/// d and n find their bit set and clear; and the bits are asked for by name, as the default's and at
+/// the right place of a firm listed twice.
+#[test]
+fn a_script_often_purges_and_blocks() {
+    let tally = Driver::drive(4, 100_000, Unheard).unwrap();
+    assert!(tally.purges.0.iter().all(|&count| count > 20), "{tally}");
+    // Where nothing is found, no token is equal to its own.
+    let vain = tally.vain_purges.0;
+    assert_eq!(
+        vain.iter().filter(|&&count| count > 50).count(),
+        7,
+        "{tally}"
+    );
+    assert!(tally.blocks.0.iter().all(|&count| count > 50), "{tally}");
+    assert!(
+        tally.rejects["O a"] > 500 && tally.steps[15] > 500,
+        "{tally}"
+    );
+    assert_eq!(tally.purges.0[0], tally.done["w"], "{tally}");
+    assert_eq!(tally.vain_purges.0[0], tally.ignored["w"], "{tally}");
 }
 
 /// Lengths above the paper's are tried too.

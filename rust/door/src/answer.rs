@@ -18,11 +18,12 @@ use std::fmt::{self, Display, Formatter};
 pub enum Answer {
     /// The only answer that changes anything.
     Done,
-    /// The rules ignore the entry.
+    /// The rules ignore the entry; of a w, no order is left to cancel.
     Ignored,
     /// An unknown kind or type, or a length that isn't its.
     Malformed,
-    /// A bad stamp, token or letter, or a bad price of p. Of several bad fields the first is told.
+    /// A bad stamp, token or letter, a bad price of p, or an account or an appendage in a request of
+    /// the purge port. Of several bad fields the first is told.
     BadField {
         /// The offset of the bad byte, the kind or type being byte 0: the field's first one or, in a
         /// token, the first character that no token has.
@@ -47,10 +48,12 @@ pub enum Answer {
     WrongRing,
     /// More was to be released than is held.
     NotHeld,
-    /// The buffer is too short for the echo's message.
+    /// The buffer is too short for the echo's message, or for the entry that is made.
     NoRoom,
     /// The list of stocks is too long, not of whole places, not ascending or has another state.
     WrongStocks,
+    /// The firm of a w, d or n isn't listed.
+    UnlistedFirm,
     /// Number 3 as well: a bad threshold or bad firms. Only a fresh table has settings, and they have
     /// no place. It stands last so that the others' order is their numbers'.
     BadSettings,
@@ -76,6 +79,7 @@ impl Answer {
             Answer::NotHeld => 12,
             Answer::NoRoom => 13,
             Answer::WrongStocks => 14,
+            Answer::UnlistedFirm => 15,
         }
     }
 
@@ -116,12 +120,13 @@ impl Answer {
             12 => Answer::NotHeld,
             13 => Answer::NoRoom,
             14 => Answer::WrongStocks,
+            15 => Answer::UnlistedFirm,
             _ => no_answer(number, 0),
         }
     }
 
-    /// The answer of a step or an echo. Only 3 comes with a place: one beside another number isn't
-    /// dropped, since it, too, means that some other archive was linked.
+    /// The answer of a step, an echo or the making of an entry. Only 3 comes with a place: one beside
+    /// another number isn't dropped, since it, too, means that some other archive was linked.
     #[inline]
     pub(crate) fn at(number: u8, place: usize) -> Answer {
         match (number, place) {
@@ -159,6 +164,7 @@ impl Answer {
             Answer::NotHeld => "more than is held",
             Answer::NoRoom => "buffer too short",
             Answer::WrongStocks => "list of stocks wrong",
+            Answer::UnlistedFirm => "firm not listed",
         }
     }
 }
@@ -187,7 +193,7 @@ mod tests {
 
     #[test]
     fn each_answer_is_the_answer_of_its_number() {
-        for number in 0..15 {
+        for number in 0..16 {
             assert_eq!(Answer::of(number).number(), number);
             assert_eq!(Answer::of(number).place(), 0);
             assert_eq!(Answer::at(number, 0).number(), number);
@@ -213,15 +219,16 @@ mod tests {
             (Answer::at(9, 0), "9: blocked"),
             (Answer::of(12), "12: more than is held"),
             (Answer::at(14, 0), "14: list of stocks wrong"),
+            (Answer::at(15, 0), "15: firm not listed"),
         ] {
             assert_eq!(answer.to_string(), printed);
         }
     }
 
     #[test]
-    #[should_panic(expected = "answered 15 at 0")]
+    #[should_panic(expected = "answered 16 at 0")]
     fn no_answer_has_a_higher_number() {
-        let _ = Answer::of(15);
+        let _ = Answer::of(16);
     }
 
     #[test]

@@ -73,6 +73,12 @@ pub fn fresh(table: &mut [u8], threshold: u32, firms: &[[u8; 4]]) -> Answer {
 /// halt (h) sets one state of the list and sends nothing, and nothing else touches the list. A
 /// blocked one ([`Answer::Blocked`]) may be offered again once bytes have been released. A bad one
 /// ([`Answer::BadField`]) tells its first bad byte, counted from the kind as 0.
+///
+/// A w cancels one order of its firm and, unless that is eight spaces, of its symbol: the first in
+/// the table that is live and not late. The same w may come again, until [`Answer::Ignored`] says
+/// that none is left. A d blocks a firm, whose new orders are then Rejected with letter a, and an n
+/// lets it in again; both send nothing. Byte 3 of the table has the blocked firms' bits, the lowest
+/// for the first firm. A firm that isn't listed is [`Answer::UnlistedFirm`].
 #[inline]
 pub fn step(
     table: &mut [u8],
@@ -144,6 +150,61 @@ pub fn echo(inbound: bool, message: &[u8], out: &mut [u8]) -> Answer {
     Answer::at(number, place)
 }
 
+/// Makes an entry of the tape from a message and its time; bytes of `entry` after it stay.
+///
+/// A client's O, U, X and M become the entries of these kinds. Where `purge` is set, the message is
+/// one of the purge port's requests: Mass Cancel (M) becomes w, Disable Order Entry (D) becomes d
+/// and Enable Order Entry (E) becomes n. The entry is as long as [`entry_length`] says of its first
+/// byte, and its stamp is the one that is given: the step judges it.
+///
+/// A bad message ([`Answer::BadField`]) tells its first bad byte, counted from the type as 0. In a
+/// request that is an account other than six spaces, at 9, or an appendage length other than 0, at
+/// 23. A buffer that is too short is [`Answer::NoRoom`]; one of [`LONGEST_ENTRY`] bytes never is.
+///
+#[cfg_attr(archive, doc = "```")]
+#[cfg_attr(not(archive), doc = "```ignore")]
+/// # fn main() -> Result<(), pilaqsevi::Answer> {
+/// use pilaqsevi::{Answer, Desk, LONGEST_ENTRY, Settings, entry, entry_length};
+///
+/// // All orders of ABCD are to go: reference 1, the firm, no account, no symbol and no appendage.
+/// let request = b"M\0\0\0\x01ABCD              \0\0";
+/// let mut buffer = [0; LONGEST_ENTRY];
+/// assert_eq!(entry(true, 7, request, &mut buffer), Answer::Done);
+/// let purge = &buffer[..entry_length(buffer[0]).unwrap_or(0)];
+/// assert_eq!(purge, b"w\0\0\0\0\0\0\0\x07ABCD        ");
+///
+/// // Each offer cancels one order, and the last finds none. A blocked one waits for its reader.
+/// let settings = Settings { threshold: 1_000_000, firms: &[*b"ABCD"] };
+/// let mut desk = Desk::new(settings, 800, 4_096, b"ABC     T")?;
+/// let last = loop {
+///     match desk.offer(purge) {
+///         Answer::Done => {}
+///         Answer::Blocked => assert_eq!(desk.release(desk.read().len()), Answer::Done),
+///         other => break other,
+///     }
+/// };
+/// assert_eq!(last, Answer::Ignored);
+/// # Ok(()) }
+/// ```
+#[inline]
+pub fn entry(purge: bool, stamp: u64, message: &[u8], entry: &mut [u8]) -> Answer {
+    let mut place = UNTOLD;
+    // SAFETY: each pointer comes with the length of its slice or is to one number, the borrows are
+    // apart and last through the call, and the function keeps no pointer.
+    let number = unsafe {
+        raw::pq_entry(
+            u8::from(purge),
+            stamp,
+            message.as_ptr(),
+            message.len(),
+            entry.as_mut_ptr(),
+            entry.len(),
+            &mut place,
+        )
+    };
+    Answer::at(number, place)
+}
+
 /// The length of an entry of this kind, its byte of kind and its stamp included.
 #[inline]
 pub fn entry_length(kind: u8) -> Option<usize> {
@@ -151,8 +212,8 @@ pub fn entry_length(kind: u8) -> Option<usize> {
     some_length(unsafe { raw::pq_entry_length(kind) })
 }
 
-/// The length of the message of this type, its type included. U and M name two messages each, and
-/// `inbound` says which is meant.
+/// The length of the message of this type, its type included, among a client's four where `inbound`
+/// is set and otherwise among the host's twelve.
 #[inline]
 pub fn message_length(inbound: bool, letter: u8) -> Option<usize> {
     // SAFETY: the function is given two numbers and nothing else.

@@ -49,6 +49,12 @@ archive! {
         place: *mut usize
     ) -> u8;
 
+    /// Makes an entry from a message and a stamp, and tells the message's first bad byte.
+    fn pq_entry(
+        purge: u8, stamp: u64, message: *const u8, len: usize, entry: *mut u8, entry_len: usize,
+        place: *mut usize
+    ) -> u8;
+
     /// The length of an entry of this kind; 0 for no kind.
     fn pq_entry_length(kind: u8) -> usize;
 

@@ -5,7 +5,7 @@
 use pilaqsevi::{
     Answer, Desk, HIGHEST_THRESHOLD, Host, LONGEST_ENTRY, LONGEST_MESSAGE, LONGEST_RING,
     MOST_FIRMS, MOST_RECORDS, MOST_STOCKS, Marks, SHORTEST_RING, SYMBOL_SIZE, Settings, echo,
-    entry_length, fresh, message_length, read, release, step, stocks_size, table_size,
+    entry, entry_length, fresh, message_length, read, release, step, stocks_size, table_size,
 };
 
 const SETTINGS: Settings = Settings {
@@ -18,6 +18,10 @@ const START: &[u8] = b"s\0\0\0\0\0\0\0\x01S";
 const ENTER: &[u8] = b"O\0\0\0\0\0\0\0\x02TOKEN00000001 B\0\0\x01\xf4IBM     \0\x01\x86\xa0\0\0\x03\xe7ABCDYPN\0\0\0\0N";
 const CANCEL: &[u8] = b"X\0\0\0\0\0\0\0\x03TOKEN00000001 \0\0\0\0";
 const HALT: &[u8] = b"h\0\0\0\0\0\0\0\x02IBM     H";
+/// Of the purge port: all orders of ABCD are to go, its new ones are kept out, and let in again.
+const MASS_CANCEL: &[u8] = b"M\0\0\0\x01ABCD              \0\0";
+const DISABLE: &[u8] = b"D\0\0\0\x02ABCD      ";
+const ENABLE: &[u8] = b"E\0\0\0\x03ABCD      ";
 
 /// Takes all held bytes out.
 fn empty(desk: &mut Desk) -> Vec<u8> {
@@ -281,14 +285,191 @@ fn a_bad_byte_is_told_from_the_kind_and_from_the_type() {
     }
 }
 
+/// The entry that is made from a message, as the purge port's or as a client's; what stands behind it
+/// in the longest buffer has stayed.
+fn made(purge: bool, stamp: u64, message: &[u8]) -> Result<Vec<u8>, Answer> {
+    let mut buffer = [0x55; LONGEST_ENTRY];
+    let answer = entry(purge, stamp, message, &mut buffer);
+    let length = match answer {
+        Answer::Done => entry_length(buffer[0]).unwrap(),
+        _ => 0,
+    };
+    let (front, behind) = buffer.split_at(length);
+    assert!(behind.iter().all(|&byte| byte == 0x55));
+    if length > 0 {
+        Ok(front.to_vec())
+    } else {
+        Err(answer)
+    }
+}
+
+/// The message that an entry of a client was made from.
+fn message_of(entry: &[u8]) -> Vec<u8> {
+    [&entry[..1], &entry[9..]].concat()
+}
+
+#[test]
+#[cfg_attr(not(archive), ignore = "no archive of the proved functions is linked")]
+fn an_entry_is_a_message_with_a_stamp() {
+    // Every entry of a client is what its message becomes with its stamp.
+    let replace = b"U\0\0\0\0\0\0\0\x04TOKEN00000001 TOKEN00000002 \0\0\0\x64\0\x01\x86\xa0\0\0\x03\xe7YN\0\0\0\0";
+    let modify = b"M\0\0\0\0\0\0\0\x05TOKEN00000002 S\0\0\0\x32";
+    for whole in [ENTER, replace, CANCEL, modify] {
+        let message = message_of(whole);
+        let stamp = u64::from(whole[8]);
+        assert_eq!(made(false, stamp, &message).as_deref(), Ok(whole));
+        assert_eq!(made(true, stamp, &message), Err(Answer::Malformed));
+    }
+    // Of a request the firm is kept and, of a Mass Cancel, the symbol.
+    let mut in_ibm = MASS_CANCEL.to_vec();
+    in_ibm[15..18].copy_from_slice(b"IBM");
+    let stamp = *b"\x01\x02\x03\x04\x05\x06\x07\x08";
+    for (request, kind, body) in [
+        (MASS_CANCEL, b"w", b"ABCD        ".as_slice()),
+        (&in_ibm, b"w", b"ABCDIBM     "),
+        (DISABLE, b"d", b"ABCD"),
+        (ENABLE, b"n", b"ABCD"),
+    ] {
+        let whole = [kind, &stamp[..], body].concat();
+        let stamp = u64::from_be_bytes(stamp);
+        assert_eq!(made(true, stamp, request), Ok(whole));
+        assert_eq!(made(false, stamp, request), Err(Answer::Malformed));
+    }
+    // Reference, firm and stamp may be anything: the last two are the step's to judge.
+    let any = made(true, u64::MAX, b"D\xff\xff\xff\xff\0\0\0\0      ").unwrap();
+    assert_eq!(any, b"d\xff\xff\xff\xff\xff\xff\xff\xff\0\0\0\0");
+}
+
+#[test]
+#[cfg_attr(not(archive), ignore = "no archive of the proved functions is linked")]
+fn an_entry_that_cannot_be_made_says_why() {
+    let enter = message_of(ENTER);
+    for (purge, message) in [
+        (true, MASS_CANCEL),
+        (true, DISABLE),
+        (true, ENABLE),
+        (false, &enter),
+    ] {
+        let (cut, longer) = (&message[..message.len() - 1], [message, b" "].concat());
+        assert_eq!(made(purge, 1, cut), Err(Answer::Malformed));
+        assert_eq!(made(purge, 1, &longer), Err(Answer::Malformed));
+        let length = made(purge, 1, message).unwrap().len();
+        let mut short = vec![0x55; length - 1];
+        assert_eq!(entry(purge, 1, message, &mut short), Answer::NoRoom);
+        assert!(short.iter().all(|&byte| byte == 0x55));
+    }
+    assert_eq!(entry(true, 1, b"", &mut []), Answer::Malformed);
+    assert_eq!(entry(true, 1, ENABLE, &mut []), Answer::NoRoom);
+    // A place is a field's first byte, whichever of its bytes is bad, and told before the room.
+    let bad = |purge, message: &[u8], at: usize| {
+        let mut message = message.to_vec();
+        message[at] = b'1';
+        entry(purge, 1, &message, &mut [])
+    };
+    for request in [MASS_CANCEL, DISABLE, ENABLE] {
+        for at in 9..15 {
+            assert_eq!(bad(true, request, at), Answer::BadField { place: 9 });
+        }
+    }
+    for at in 23..25 {
+        assert_eq!(bad(true, MASS_CANCEL, at), Answer::BadField { place: 23 });
+    }
+    let both = b"M\0\0\0\x01ABCD     1        \x01\0";
+    assert_eq!(made(true, 1, both), Err(Answer::BadField { place: 9 }));
+    // A side is a letter, and any character of a token may be a figure.
+    assert_eq!(bad(false, &enter, 15), Answer::BadField { place: 15 });
+    assert_eq!(bad(false, &enter, 14), Answer::NoRoom);
+}
+
+#[test]
+#[cfg_attr(not(archive), ignore = "no archive of the proved functions is linked")]
+fn a_purge_takes_one_order_each_time_until_none_is_left() {
+    let settings = Settings {
+        firms: &[*b"ABCD", *b"WXYZ"],
+        ..SETTINGS
+    };
+    let mut desk = Desk::new(settings, 3, 128, STOCKS).unwrap();
+    let purge = made(true, 2, MASS_CANCEL).unwrap();
+    // It asks for no open day, and what is ignored moves no stamp.
+    assert_eq!(desk.offer(&purge), Answer::Ignored);
+    assert_eq!(desk.offer(START), Answer::Done);
+    // Of the three orders the second is another firm's.
+    for (last, firm) in [(b'1', b"ABCD"), (b'2', b"WXYZ"), (b'3', b"    ")] {
+        let mut enter = ENTER.to_vec();
+        enter[21] = last;
+        enter[44..48].copy_from_slice(firm);
+        empty(&mut desk);
+        assert_eq!(desk.offer(&enter), Answer::Done);
+    }
+    // The last Accepted is held and leaves room for two Canceleds.
+    assert_eq!(desk.held(), 66);
+    let mut in_abc = purge.clone();
+    in_abc[13..16].copy_from_slice(b"ABC");
+    assert_eq!(desk.offer(&in_abc), Answer::Ignored);
+    assert_eq!(desk.offer(&purge), Answer::Done);
+    assert_eq!(desk.offer(&purge), Answer::Done);
+    assert_eq!(desk.offer(&purge), Answer::Ignored);
+    let sent = empty(&mut desk)[66..].to_vec();
+    let canceled: Vec<(u8, u8, u8)> = sent.chunks(28).map(|c| (c[0], c[21], c[27])).collect();
+    assert_eq!(canceled, [(b'C', b'1', b'U'), (b'C', b'3', b'U')]);
+}
+
+#[test]
+#[cfg_attr(not(archive), ignore = "no archive of the proved functions is linked")]
+fn a_blocked_firm_is_rejected_until_it_is_let_in_again() {
+    let settings = Settings {
+        firms: &[*b"WXYZ", *b"ABCD"],
+        ..SETTINGS
+    };
+    let mut desk = Desk::new(settings, 4, 128, STOCKS).unwrap();
+    let disable = made(true, 2, DISABLE).unwrap();
+    let enable = made(true, 2, ENABLE).unwrap();
+    assert_eq!(desk.offer(START), Answer::Done);
+    let mut sent = |entry: &[u8]| {
+        empty(&mut desk);
+        assert_eq!(desk.offer(entry), Answer::Done);
+        (empty(&mut desk), desk.table()[3])
+    };
+    let mut enter = ENTER.to_vec();
+    assert_eq!(sent(&disable), (vec![], 0b10));
+    let (message, _) = sent(&enter);
+    assert_eq!((message[0], message.last()), (b'J', Some(&b'a')));
+    // The other firm, which is the default, isn't blocked.
+    enter[21] = b'2';
+    enter[44..48].copy_from_slice(b"    ");
+    assert_eq!(sent(&enter).0[0], b'A');
+    assert_eq!(sent(&enable), (vec![], 0));
+    enter[21] = b'3';
+    enter[44..48].copy_from_slice(b"ABCD");
+    assert_eq!(sent(&enter).0[0], b'A');
+}
+
+#[test]
+#[cfg_attr(not(archive), ignore = "no archive of the proved functions is linked")]
+fn a_firm_that_is_not_listed_is_neither_purged_nor_blocked() {
+    let mut desk = Desk::new(SETTINGS, 1, 128, STOCKS).unwrap();
+    let before = desk.clone();
+    for request in [MASS_CANCEL, DISABLE, ENABLE] {
+        // A blank firm isn't the default's here.
+        for firm in [b"WXYZ", b"    "] {
+            let mut request = request.to_vec();
+            request[5..9].copy_from_slice(firm);
+            let entry = made(true, 2, &request).unwrap();
+            assert_eq!(desk.offer(&entry), Answer::UnlistedFirm);
+            assert_eq!(desk, before);
+        }
+    }
+}
+
 #[test]
 #[cfg_attr(not(archive), ignore = "no archive of the proved functions is linked")]
 fn lengths_are_the_papers() {
     let entries = (0..=255).filter_map(|kind| Some((kind, entry_length(kind)?)));
     let entries: Vec<(u8, usize)> = entries.collect();
     let kinds: Vec<u8> = entries.iter().map(|(kind, _)| *kind).collect();
-    assert_eq!(kinds, b"MOUXcefhlpqs");
+    assert_eq!(kinds, b"MOUXcdefhlnpqsw");
     assert_eq!(entry_length(b'h'), Some(HALT.len()));
+    assert_eq!(b"wdn".map(entry_length), [Some(21), Some(13), Some(13)]);
     assert_eq!((entry_length(b'q'), entry_length(b'u')), (Some(36), None));
     assert_eq!(
         entries.iter().map(|(_, length)| *length).max(),

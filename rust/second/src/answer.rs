@@ -23,6 +23,7 @@ pub enum Answer {
     ReleaseAboveHeld,
     BufferTooShort,
     WrongStocks,
+    FirmNotListed,
 }
 
 impl Answer {
@@ -44,6 +45,7 @@ impl Answer {
             Answer::ReleaseAboveHeld => 12,
             Answer::BufferTooShort => 13,
             Answer::WrongStocks => 14,
+            Answer::FirmNotListed => 15,
         }
     }
 
@@ -73,7 +75,7 @@ impl Answer {
     }
 }
 
-/// What a step or an echo tells.
+/// What a step, an echo or the making of an entry tells.
 #[derive(Clone, Copy, Debug, PartialEq, Eq)]
 pub struct Told {
     /// The paper's number.

@@ -6,6 +6,7 @@ use crate::layout::{Message, messages};
 use crate::messages::{Cancel, Enter, Modify, Replace};
 use crate::shares::Removed;
 use crate::stocks::Symbol;
+use crate::table::Firm;
 
 /// Where the stamp of every entry begins and ends.
 const STAMP_AT: usize = 1;
@@ -75,6 +76,25 @@ messages! {
         9 symbol: Symbol,
         17 state: StockState,
     }
+
+    /// A firm's next order is cancelled, in this symbol or in any.
+    b'w' MassCancel 21 {
+        1 stamp: Stamp,
+        9 firm: Firm,
+        13 symbol: Symbol,
+    }
+
+    /// A firm's new orders are blocked.
+    b'd' Disable 13 {
+        1 stamp: Stamp,
+        9 firm: Firm,
+    }
+
+    /// A firm's new orders are let in again.
+    b'n' Enable 13 {
+        1 stamp: Stamp,
+        9 firm: Firm,
+    }
 }
 
 /// An entry whose length, letters, tokens and stamp are legal.
@@ -92,6 +112,9 @@ pub enum Entry {
     CrossDone(CrossDone),
     System(System),
     Halt(Halt),
+    MassCancel(MassCancel),
+    Disable(Disable),
+    Enable(Enable),
 }
 
 impl Entry {
@@ -111,6 +134,9 @@ impl Entry {
             Some(b'f') => Entry::CrossDone(Message::read(bytes)?),
             Some(b's') => Entry::System(Message::read(bytes)?),
             Some(b'h') => Entry::Halt(Message::read(bytes)?),
+            Some(b'w') => Entry::MassCancel(Message::read(bytes)?),
+            Some(b'd') => Entry::Disable(Message::read(bytes)?),
+            Some(b'n') => Entry::Enable(Message::read(bytes)?),
             _ => return Err(Answer::WrongKindOrLength),
         })
     }
@@ -130,6 +156,9 @@ impl Entry {
             Entry::CrossDone(f) => f.stamp,
             Entry::System(s) => s.stamp,
             Entry::Halt(h) => h.stamp,
+            Entry::MassCancel(w) => w.stamp,
+            Entry::Disable(d) => d.stamp,
+            Entry::Enable(n) => n.stamp,
         }
     }
 }
@@ -168,6 +197,9 @@ pub fn entry_length(kind: u8) -> Option<usize> {
         b'f' => CrossDone::LEN,
         b's' => System::LEN,
         b'h' => Halt::LEN,
+        b'w' => MassCancel::LEN,
+        b'd' => Disable::LEN,
+        b'n' => Enable::LEN,
         _ => return None,
     })
 }

@@ -52,7 +52,7 @@ macro_rules! number_field {
         }
     )*};
 }
-number_field!(u8, u32, u64);
+number_field!(u8, u16, u32, u64);
 
 /// Makes a tuple struct over a `u32` a field that is carried unjudged.
 macro_rules! plain_field {
@@ -111,9 +111,13 @@ judged_field! {
     StockState(u8): |state| first_unless(b"TH".contains(state));
     /// The price of a priority entry.
     PriorityPrice(u32): |price| first_unless((1..=HIGHEST_PRICE).contains(price));
+    /// The account of a purge port's request: blank, since orders here have none to tell apart.
+    Account([u8; 6]): |account| first_unless(account == b"      ");
+    /// The length of a request's further criteria, none of which is served.
+    AppendageLength(u16): |&length| first_unless(length == 0);
 }
 
-/// A number or a letter that isn't good is bad as a whole, so from its first byte on.
+/// What isn't a token and isn't good is bad as a whole, so from its first byte on.
 fn first_unless(good: bool) -> Option<usize> {
     (!good).then_some(0)
 }

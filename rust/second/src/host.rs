@@ -123,6 +123,9 @@ impl Host {
         if let Some(day) = deed.day {
             self.header.day = day;
         }
+        if let Some((place, blocked)) = deed.blocks {
+            self.header.blocks.set(place, blocked);
+        }
         if deed.takes_reference {
             self.header.next_reference += 1;
         }
@@ -154,5 +157,15 @@ impl Host {
             Record::Order(order) if order.live() => Some((place, order)),
             _ => None,
         }
+    }
+
+    /// The live orders and their places, in record order. No token is asked for, so each record goes
+    /// by its own state, whatever stands before it in a table made by hand.
+    pub(crate) fn live_orders(&self) -> impl Iterator<Item = (usize, Order)> {
+        let places = self.records.iter().enumerate();
+        places.filter_map(|(place, record)| match record {
+            Record::Order(order) if order.live() => Some((place, *order)),
+            _ => None,
+        })
     }
 }

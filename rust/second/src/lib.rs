@@ -7,7 +7,8 @@
 //!
 //! - [`fresh`], [`step`], [`read`], [`release`]: the paper's calls over bytes, total on all inputs;
 //! - [`echo`]: reads one of the sixteen messages and writes it back;
-//! - [`Told`]: what a step or an echo says, the number and with 3 the first bad byte's place;
+//! - [`entry()`]: makes an entry of a client's message or of the purge port's;
+//! - [`Told`]: what a step and either of these say, the number and with 3 the first bad byte's place;
 //! - [`Host`] with [`Outbox`] and [`Stocks`]: the same host kept between steps;
 //! - [`listing`]: what the paper's program prints for a tape;
 //! - [`tapes`]: seeded random tapes, tables and damage for comparing hosts.
@@ -15,6 +16,7 @@
 #![forbid(unsafe_code)]
 
 mod answer;
+mod blocks;
 mod door;
 mod echo;
 mod entry;
@@ -25,11 +27,13 @@ mod listing;
 pub mod messages;
 mod order;
 mod outbox;
+pub mod port;
 mod rules;
 mod shares;
 mod stocks;
 mod table;
 pub mod tapes;
+mod taping;
 
 #[cfg(test)]
 mod tests;
@@ -37,10 +41,12 @@ mod tests;
 pub use answer::{Answer, Told};
 pub use door::{fresh, read, release, step};
 pub use echo::echo;
-pub use field::{Side, Stamp, StockState, Sweep, Token};
+pub use field::{Account, AppendageLength, Side, Stamp, StockState, Sweep, Token};
 pub use host::Host;
 pub use layout::{Fields, Message};
 pub use listing::listing;
 pub use outbox::Outbox;
 pub use shares::{Open, Removed, Total};
 pub use stocks::{Stocks, Symbol};
+pub use table::Firm;
+pub use taping::entry;

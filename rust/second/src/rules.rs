@@ -6,6 +6,7 @@ mod details;
 mod enter;
 mod halt;
 mod modify;
+mod purge;
 mod replace;
 mod system;
 
@@ -27,7 +28,7 @@ const HALTED: u8 = b'H';
 /// The longest outbound message, Replaced.
 const LONGEST_OUTBOUND: usize = 80;
 
-/// Answers 4 first; then the entry's own rule answers 1, 5, 7 or 6, or says what is to be done.
+/// Answers 4 first; then the entry's own rule answers 15, 1, 5, 7 or 6, or says what is to be done.
 pub fn decide(host: &Host, stocks: &Stocks, entry: &Entry) -> Result<Deed, Answer> {
     if entry.stamp() < host.header.last_stamp {
         return Err(Answer::StampBelowLast);
@@ -45,6 +46,9 @@ pub fn decide(host: &Host, stocks: &Stocks, entry: &Entry) -> Result<Deed, Answe
         Entry::CrossDone(f) => book::cross_done(host, f),
         Entry::System(s) => system::system(host, s),
         Entry::Halt(h) => halt::halt(stocks, h),
+        Entry::MassCancel(w) => purge::mass_cancel(host, w),
+        Entry::Disable(d) => purge::disable(host, d),
+        Entry::Enable(n) => purge::enable(host, n),
     }
 }
 
@@ -58,6 +62,8 @@ pub struct Deed {
     pub day: Option<Day>,
     /// A place of the list of stocks and its state.
     pub sets: Option<(usize, StockState)>,
+    /// A place of the firms, and whether its new orders are blocked from now on.
+    pub blocks: Option<(usize, bool)>,
 }
 
 impl Deed {

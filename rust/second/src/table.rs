@@ -1,5 +1,6 @@
-//! The table's length and header: the day, the settings and the counters in 64 bytes.
+//! The table's length and header: the day, the settings, the blocks and the counters in 64 bytes.
 
+use crate::blocks::Blocks;
 use crate::field::{Field, Stamp, capitals_then_spaces};
 use crate::order::RECORD_LEN;
 
@@ -16,6 +17,8 @@ const MOST_FIRMS: usize = 8;
 const FIRM_LEN: usize = 4;
 const FIRMS_AT: usize = 28;
 const FIRMS_END: usize = FIRMS_AT + MOST_FIRMS * FIRM_LEN;
+/// Where the firms' blocks stand.
+const BLOCKS_AT: usize = 3;
 
 /// A firm code.
 pub type Firm = [u8; FIRM_LEN];
@@ -72,6 +75,11 @@ impl Settings {
             firm
         }
     }
+
+    /// The first place of a firm, or nothing where it isn't listed, as a blank one never is.
+    pub fn place_of(&self, firm: Firm) -> Option<usize> {
+        self.firms.iter().position(|&listed| listed == firm)
+    }
 }
 
 /// The header without the count of used records, which the host's own rows give.
@@ -81,6 +89,7 @@ pub struct Header {
     pub last_stamp: Stamp,
     pub next_reference: u64,
     pub settings: Settings,
+    pub blocks: Blocks,
 }
 
 impl Header {
@@ -91,7 +100,14 @@ impl Header {
             last_stamp: Stamp(0),
             next_reference: 1,
             settings,
+            blocks: Blocks::default(),
         }
+    }
+
+    /// Whether a firm's new orders are blocked; those of an unlisted one have no bit.
+    pub fn blocked(&self, firm: Firm) -> bool {
+        let place = self.settings.place_of(firm);
+        place.is_some_and(|place| self.blocks.at(place))
     }
 
     /// The header of 64 bytes and the used records it claims, or nothing where it isn't sound.
@@ -102,7 +118,10 @@ impl Header {
         let last_stamp = Stamp::get(&bytes[8..16]);
         let next_reference = u64::get(&bytes[16..24]);
         let settings = read_settings(bytes)?;
-        let zeros = bytes[2..4].iter().chain(&bytes[FIRMS_END..HEADER_LEN]);
+        let blocks = Blocks::of(bytes[BLOCKS_AT], settings.firms.len())?;
+        let zeros = bytes[2..BLOCKS_AT]
+            .iter()
+            .chain(&bytes[FIRMS_END..HEADER_LEN]);
         let good = last_stamp.good()
             && (1..=LAST_REFERENCE).contains(&next_reference)
             && zeros.into_iter().all(|&b| b == 0);
@@ -111,6 +130,7 @@ impl Header {
             last_stamp,
             next_reference,
             settings,
+            blocks,
         };
         good.then_some((header, usize::try_from(used).ok()?))
     }
@@ -121,6 +141,7 @@ impl Header {
         out[0] = self.day as u8;
         // At most 8 firms and 800 records, so neither number is cut.
         out[1] = self.settings.firms.len() as u8;
+        out[BLOCKS_AT] = self.blocks.byte();
         (used as u32).put(&mut out[4..8]);
         self.last_stamp.put(&mut out[8..16]);
         self.next_reference.put(&mut out[16..24]);

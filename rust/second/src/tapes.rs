@@ -8,11 +8,13 @@ mod chance;
 pub mod damage;
 mod from_book;
 mod from_client;
+mod from_port;
 pub mod judged;
 mod lists;
 mod look;
 mod made;
 mod messages;
+mod requests;
 mod tokens;
 mod values;
 
@@ -20,6 +22,7 @@ pub use chance::Chance;
 pub use lists::good_list;
 pub use made::{settings, sound_table};
 pub use messages::message;
+pub use requests::request;
 
 use look::Look;
 
@@ -33,6 +36,9 @@ pub struct Tapes {
     past: Vec<Vec<u8>>,
     /// The day is closed about once in so many entries; some tapes never close.
     closes_once_in: u64,
+    /// Whether the last entry was a w that had an order to take. Such a one mostly comes again, until
+    /// none is left and it is ignored.
+    purging: bool,
 }
 
 impl Tapes {
@@ -44,21 +50,25 @@ impl Tapes {
             chance,
             past: Vec::new(),
             closes_once_in,
+            purging: false,
         }
     }
 
     /// The next entry, for a host whose table and list of stocks have these bytes.
     pub fn entry(&mut self, table: &[u8], stocks: &[u8]) -> Vec<u8> {
         let look = Look::at(table, stocks);
+        let purges_on = self.purging && !self.chance.one_in(4);
         let entry = match self.chance.below(100) {
-            0..=3 => self.sent_again(&look),
-            4..=8 => self.sent_again_now(&look),
+            _ if purges_on => self.sent_again_now(&look, true),
+            0..=3 => self.sent_again(&look, false),
+            4..=8 => self.sent_again_now(&look, false),
             9..=17 => {
                 let whole = self.sensible(&look);
                 damage::misread(&mut self.chance, whole)
             }
             _ => self.sensible(&look),
         };
+        self.purging = from_port::is_purge(&entry) && !look.purged_by(&entry).is_empty();
         self.past.push(entry.clone());
         if self.past.len() > KEPT {
             self.past.remove(0);
@@ -66,18 +76,22 @@ impl Tapes {
         entry
     }
 
-    /// An earlier entry byte for byte; often the last one, whose stamp isn't yet too low.
-    fn sent_again(&mut self, look: &Look) -> Vec<u8> {
-        let latest = self.past.last().cloned();
-        let any = self.chance.choose(&self.past).cloned();
-        let again = if self.chance.one_in(2) { latest } else { any };
-        again.unwrap_or_else(|| self.sensible(look))
+    /// An earlier entry byte for byte; the last one where that is wanted, and often anyway, since its
+    /// stamp isn't yet too low.
+    fn sent_again(&mut self, look: &Look, latest: bool) -> Vec<u8> {
+        let latest = latest || self.chance.one_in(2);
+        let any = self.chance.choose(&self.past);
+        let again = if latest { self.past.last() } else { any };
+        match again.cloned() {
+            Some(entry) => entry,
+            None => self.sensible(look),
+        }
     }
 
     /// An earlier entry with a stamp of now, so that it comes to more than answer 4.
-    fn sent_again_now(&mut self, look: &Look) -> Vec<u8> {
+    fn sent_again_now(&mut self, look: &Look, latest: bool) -> Vec<u8> {
         let stamp = values::stamp(&mut self.chance, look);
-        let mut entry = self.sent_again(look);
+        let mut entry = self.sent_again(look, latest);
         if let Some(place) = entry.get_mut(1..9) {
             place.copy_from_slice(&stamp.to_be_bytes());
         }
@@ -92,40 +106,44 @@ impl Tapes {
         if wants_start || wants_end || chance.one_in(120) {
             return from_book::system(chance, look);
         }
-        // Few orders mean many Enters, so that the other kinds find something to act on; a full
-        // table means few, since it only answers them with 8.
-        let enters = match (look.full(), look.live().len()) {
-            (true, _) => 4,
-            (false, 0..=3) => 60,
-            _ => 20,
-        };
-        // What self-matched shares count for shows in Cancels, and orders that have some are few.
-        let cancels = if look.live_and_self_matched().is_empty() {
-            16
-        } else {
-            40
-        };
-        // A Replace seldom finds its order's stock halted, so there are more where it would.
-        let replaces = if look.live_and_halted().is_empty() {
-            24
-        } else {
-            48
-        };
-        let kinds = [
-            (enters, from_client::enter as Maker),
-            (replaces, from_client::replace),
-            (cancels, from_client::cancel),
-            (10, from_client::modify),
-            (12, from_book::execution),
-            (7, from_book::book_cancel),
-            (10, from_book::self_match),
-            (4, from_book::priority),
-            (7, from_book::late_begins),
-            (6, from_book::cross_done),
-            (8, from_book::halt),
-        ];
-        chance.weighted(&kinds)(chance, look)
+        chance.weighted(&makers(look))(chance, look)
     }
+}
+
+/// How often each kind is made for a table and a list that look so.
+fn makers(look: &Look) -> [(u64, Maker); 14] {
+    let either = |is_so: bool, one: u64, other: u64| if is_so { one } else { other };
+    // Few orders mean many Enters, so that the other kinds find something to act on; a full table or
+    // a day that isn't open means few, since they are only answered with 8 or rejected there.
+    let enters = match (look.full(), look.day(), look.live().len()) {
+        (true, _, _) => 4,
+        (false, 1, 0..=3) => 60,
+        _ => 20,
+    };
+    // What self-matched shares count for shows in Cancels, and orders that have some are few.
+    let cancels = either(look.live_and_self_matched().is_empty(), 16, 48);
+    // A Replace seldom finds its order's stock halted, so there are more where it would.
+    let replaces = either(look.live_and_halted().is_empty(), 24, 48);
+    // A w is ignored where nothing is live, and ends what the other kinds would act on.
+    let purges = either(look.live().is_empty(), 1, 8);
+    // A blocked firm's orders only fill the table, so that it is let in again before long.
+    let enables = either(look.blocked_firms().is_empty(), 2, 14);
+    [
+        (enters, from_client::enter),
+        (replaces, from_client::replace),
+        (cancels, from_client::cancel),
+        (10, from_client::modify),
+        (12, from_book::execution),
+        (7, from_book::book_cancel),
+        (10, from_book::self_match),
+        (4, from_book::priority),
+        (7, from_book::late_begins),
+        (6, from_book::cross_done),
+        (8, from_book::halt),
+        (purges, from_port::mass_cancel),
+        (4, from_port::disable),
+        (enables, from_port::enable),
+    ]
 }
 
 /// Whether little can happen to this table any more: nothing is live, and no order can be entered

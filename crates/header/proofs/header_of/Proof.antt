@@ -10,4 +10,4 @@ returns c = cc
 
 pub header-of-spec : {M : Type 1} → statement M
 header-of-spec =
-    tie.close (tie.spec (search needs) (search needs) (search needs) (search needs) (search needs) (search needs) (search needs) returns)
+    tie.close (tie.spec (search needs) (search needs) (search needs) (search needs) (search needs) (search needs) (search needs) (search needs) returns)

@@ -48,6 +48,10 @@ impl<F: Fn(&mut Desk, &[u8]) -> Told> Host for Stepping<F> {
     fn echo(&self, inbound: bool, message: &[u8], out: &mut [u8]) -> Told {
         Second.echo(inbound, message, out)
     }
+
+    fn entry(&self, purge: bool, stamp: u64, message: &[u8], out: &mut [u8]) -> Told {
+        Second.entry(purge, stamp, message, out)
+    }
 }
 
 /// The difference that a host with this step shows, if any.

@@ -13,6 +13,9 @@ use crate::shares::{Open, Total};
 use crate::stocks::Stocks;
 use crate::table::Firm;
 
+/// The firm's new orders are blocked.
+const BLOCKED: u8 = b'a';
+
 pub fn enter(host: &Host, stocks: &Stocks, stamp: Stamp, o: &Enter) -> Result<Deed, Answer> {
     if host.used(o.token) {
         return Err(Answer::Ignored);
@@ -32,7 +35,8 @@ fn fault(host: &Host, stocks: &Stocks, o: &Enter, firm: Firm) -> Option<u8> {
     let known = capitals_then_spaces(&o.stock) && stocks.find(o.stock).is_some();
     let faults = [
         (!host.day_open(), b'C'),
-        (!settings.firms.contains(&firm), b'L'),
+        (settings.place_of(firm).is_none(), b'L'),
+        (host.header.blocked(firm), BLOCKED),
         (!known, b'S'),
         (stocks.halted(o.stock), HALTED),
         (!b"NOC".contains(&o.cross), b'R'),

@@ -54,7 +54,7 @@ fn header(chance: &mut Chance, table: &mut [u8]) {
     let any = chance.byte();
     let place = chance.place(64);
     let edge = chance.pick(EDGE_BYTES);
-    match chance.below(9) {
+    match chance.below(10) {
         0 => write(table, 0, &[chance.pick(&[0, 1, 2, 3, 255])]),
         1 => write(table, 1, &[chance.pick(&[0, 1, 2, 7, 8, 9, 255])]),
         2 => write(table, 4, &near(chance, records).to_be_bytes()),
@@ -75,8 +75,16 @@ fn header(chance: &mut Chance, table: &mut [u8]) {
         }
         6 => write(table, 28 + chance.place(32), &[edge]),
         7 => write(table, chance.pick(&[2, 3, 60, 61, 62, 63]), &[any]),
+        8 => blocks(chance, table),
         _ => write(table, place, &[any]),
     }
+}
+
+/// Blocks of all firms, the bit right past them, or the highest one.
+fn blocks(chance: &mut Chance, table: &mut [u8]) {
+    let count = table.get(1).copied().unwrap_or(0).min(8);
+    let past = 1_u16 << count;
+    write(table, 3, &[chance.pick(&[past - 1, past, 0x80]) as u8]);
 }
 
 /// A used record as a rule, since nothing judges the others.
@@ -218,7 +226,7 @@ pub fn misread(chance: &mut Chance, mut entry: Vec<u8>) -> Vec<u8> {
         1 => write(
             &mut entry,
             0,
-            &[chance.pick(b"OUXMecqplfshSACDEBJPITGHo\0")],
+            &[chance.pick(b"OUXMecqplfshwdnSACDEBJPITGHWNo\0")],
         ),
         2 => wrong_length(chance, &mut entry),
         3 => {
@@ -268,6 +276,17 @@ fn spoil_field(chance: &mut Chance, bytes: &mut [u8], (at, judged): Field) {
             let prices = [0, 1_999_999_901, 2_147_483_647, u32::MAX];
             write(bytes, at, &chance.pick(&prices).to_be_bytes());
         }
+        Judged::Blank => {
+            let character = at + chance.place(6);
+            write(bytes, character, &[chance.pick(b"\0A0z\x1f!\xa0\xff")]);
+            if chance.one_in(4) {
+                write(bytes, at, &chance.pick(&[[0; 6], *b"ACCT  ", *b"ACCT01"]));
+            }
+        }
+        Judged::Zero => {
+            let lengths: [u16; 6] = [1, 2, 255, 256, 1 << 15, u16::MAX];
+            write(bytes, at, &chance.pick(&lengths).to_be_bytes());
+        }
     }
 }
 
@@ -279,8 +298,8 @@ fn edge(chance: &mut Chance, bytes: &mut [u8], fields: &[Field]) {
             write(bytes, character, &[chance.pick(EDGE_BYTES)]);
         }
         Some((at, Judged::Letter(_))) => write(bytes, *at, &[chance.pick(LETTERS)]),
-        // A stamp and a price have edges of their own where they are made.
-        Some((_, Judged::Stamp | Judged::Price)) | None => {}
+        // The others have edges of their own where they are made.
+        Some(_) | None => {}
     }
 }
 

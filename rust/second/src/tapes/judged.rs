@@ -1,7 +1,7 @@
-//! Where a reader judges: the stamps, tokens, letters and prices of entries and messages, by the
-//! paper's tables.
+//! Where a reader judges: the stamps, tokens, letters and prices of entries and messages, and what
+//! must be blank or zero in the purge port's requests, by the papers' tables.
 
-use Judged::{Letter, Price, Stamp, Token};
+use Judged::{Blank, Letter, Price, Stamp, Token, Zero};
 
 /// What is judged at a place.
 #[derive(Clone, Copy, Debug, PartialEq, Eq)]
@@ -13,6 +13,10 @@ pub enum Judged {
     Letter(&'static [u8]),
     /// The price of p.
     Price,
+    /// Six spaces.
+    Blank,
+    /// Two bytes of zero.
+    Zero,
 }
 
 /// A judged field: the offset of its first byte from the kind or type, and what it is.
@@ -26,10 +30,12 @@ const CODE: Judged = Letter(b"SE");
 const STATE: Judged = Letter(b"TH");
 
 /// The kinds of entries.
-pub const ENTRIES: &[u8] = b"OUXMecqplfsh";
+pub const ENTRIES: &[u8] = b"OUXMecqplfshwdn";
 /// The types of messages, inbound and outbound.
 pub const INBOUND: &[u8] = b"OUXM";
 pub const OUTBOUND: &[u8] = b"SAUCDEBJPITM";
+/// The types of the purge port's requests.
+pub const PORT: &[u8] = b"MDE";
 
 /// The judged fields of an entry of this kind; none where the kind is unknown.
 pub fn of_entry(kind: u8) -> &'static [Field] {
@@ -44,6 +50,7 @@ pub fn of_entry(kind: u8) -> &'static [Field] {
         b'p' => &[(1, Stamp), (9, Token), (23, Price)],
         b's' => &[(1, Stamp), (9, CODE)],
         b'h' => &[(1, Stamp), (17, STATE)],
+        b'w' | b'd' | b'n' => &[(1, Stamp)],
         _ => &[],
     }
 }
@@ -62,12 +69,21 @@ pub fn of_message(inbound: bool, letter: u8) -> &'static [Field] {
     }
 }
 
+/// The judged fields of a purge port's request of this type; none where the type is unknown.
+pub fn of_request(letter: u8) -> &'static [Field] {
+    match letter {
+        b'M' => &[(9, Blank), (23, Zero)],
+        b'D' | b'E' => &[(9, Blank)],
+        _ => &[],
+    }
+}
+
 /// Every place that such fields can be bad at: each character of a token, and the first byte of
 /// what is bad as a whole.
 pub fn places(fields: &[Field]) -> Vec<usize> {
     let of = |&(at, judged): &Field| match judged {
         Token => at..at + 14,
-        Stamp | Letter(_) | Price => at..at + 1,
+        Stamp | Letter(_) | Price | Blank | Zero => at..at + 1,
     };
     fields.iter().flat_map(of).collect()
 }

@@ -41,6 +41,15 @@ impl<'a> Look<'a> {
             .collect()
     }
 
+    /// Those of them whose new orders are blocked, each by its first place.
+    pub fn blocked_firms(&self) -> Vec<[u8; 4]> {
+        let (firms, bits) = (self.firms(), number(self.table, 3, 1));
+        let first = |place: usize| firms.iter().position(|firm| *firm == firms[place]);
+        let places = 0..firms.len();
+        let blocked = places.filter(|&place| first(place) == Some(place) && bits >> place & 1 == 1);
+        blocked.map(|place| firms[place]).collect()
+    }
+
     /// The listed symbols and their states.
     pub fn stocks(&self) -> Vec<([u8; 8], u8)> {
         let places = self.stocks.chunks_exact(9);
@@ -76,6 +85,15 @@ impl<'a> Look<'a> {
     pub fn live_and_self_matched(&self) -> Vec<Row<'a>> {
         let mut rows = self.live();
         rows.retain(|row| row.self_matched() > 0);
+        rows
+    }
+
+    /// Those of the live ones that this w cancels, one after the other.
+    pub fn purged_by(&self, w: &[u8]) -> Vec<Row<'a>> {
+        let (firm, symbol) = (bytes(w, 9), bytes(w, 13));
+        let mut rows = self.live();
+        rows.retain(|row| row.firm() == firm && !row.late());
+        rows.retain(|row| symbol == *b"        " || row.stock() == symbol);
         rows
     }
 
@@ -124,6 +142,10 @@ impl Row<'_> {
 
     pub fn stock(self) -> [u8; 8] {
         bytes(self.0, 28)
+    }
+
+    pub fn firm(self) -> [u8; 4] {
+        bytes(self.0, 44)
     }
 
     pub fn in_cross(self) -> bool {

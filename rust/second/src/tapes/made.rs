@@ -1,14 +1,15 @@
 //! Tables made by hand: sound, but in states that no tape would reach.
 
 use super::chance::Chance;
+use super::look::Look;
 use super::tokens::{near_token, new_token};
-use super::values::STAMPS_END;
+use super::values::{GOOD_STOCKS, STAMPS_END};
 
 /// 10^18, the highest next reference.
 const REFERENCES_END: u64 = 10_u64.pow(18);
 
 /// A sound table of so many records (1 to 800), with whatever the paper leaves unjudged at random:
-/// unused records, byte 79, high flag bits, equal tokens, odd sides and crosses.
+/// unused records, byte 79, high flag bits, equal tokens, odd sides, crosses, firms and stocks.
 pub fn sound_table(chance: &mut Chance, records: usize) -> Vec<u8> {
     let used = match chance.below(5) {
         0 => 0,
@@ -16,12 +17,13 @@ pub fn sound_table(chance: &mut Chance, records: usize) -> Vec<u8> {
         _ => chance.place(records + 1),
     };
     let mut table = header(chance, used);
+    let firms = Look::at(&table, &[]).firms();
     let mut stored = Vec::new();
     for place in 0..records {
         let row = if place < used {
             let token = token(chance, &stored);
             stored.push(token);
-            used_record(chance, token)
+            used_record(chance, token, &firms)
         } else {
             unused_record(chance)
         };
@@ -50,8 +52,10 @@ fn header(chance: &mut Chance, used: usize) -> Vec<u8> {
     let threshold =
         chance.weighted(&[(3, 1_000_000), (1, 1), (1, 2), (1, 600), (4, any_threshold)]);
     let day = chance.weighted(&[(1, 0), (6, 1), (2, 2)]);
+    let any_blocks = chance.byte() & (0xff >> (8 - count));
+    let blocks = chance.weighted(&[(3, 0), (1, any_blocks)]);
     [
-        [day, count as u8, 0, 0].as_slice(),
+        [day, count as u8, 0, blocks].as_slice(),
         &(used as u32).to_be_bytes(),
         &stamp.to_be_bytes(),
         &reference.to_be_bytes(),
@@ -71,7 +75,7 @@ fn token(chance: &mut Chance, stored: &[[u8; 14]]) -> [u8; 14] {
     }
 }
 
-fn used_record(chance: &mut Chance, token: [u8; 14]) -> Vec<u8> {
+fn used_record(chance: &mut Chance, token: [u8; 14], firms: &[[u8; 4]]) -> Vec<u8> {
     let state = chance.weighted(&[(6, b'L'), (3, b'D'), (1, b'R')]);
     if state == b'R' {
         return [[state].as_slice(), &token, &[0; 65]].concat();
@@ -84,6 +88,12 @@ fn used_record(chance: &mut Chance, token: [u8; 14]) -> Vec<u8> {
     row[16..20].copy_from_slice(&liable.to_be_bytes());
     row[20..24].copy_from_slice(&executed.to_be_bytes());
     row[24..28].copy_from_slice(&self_matched.to_be_bytes());
+    if !chance.one_in(3) {
+        row[28..36].copy_from_slice(&chance.pick(&GOOD_STOCKS));
+    }
+    if !chance.one_in(5) {
+        row[44..48].copy_from_slice(&chance.pick(firms));
+    }
     row[55] = chance.weighted(&[(4, b'N'), (4, b'O'), (4, b'C'), (3, row[55])]);
     let plain_flags = row[64] & 7;
     row[64] = chance.weighted(&[(3, 0), (1, 1), (4, plain_flags), (1, row[64])]);

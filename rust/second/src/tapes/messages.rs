@@ -29,7 +29,13 @@ const KINDS: [(bool, u8, usize); 16] = [
 /// Whether the caller says inbound, and the message's bytes.
 pub fn message(chance: &mut Chance) -> (bool, Vec<u8>) {
     let (inbound, kind, len) = KINDS[chance.place(KINDS.len())];
-    let fields = of_message(inbound, kind);
+    let message = made(chance, kind, len, of_message(inbound, kind));
+    // Now and then the caller says the wrong one, which tells the twins U and M apart.
+    (inbound != chance.one_in(30), message)
+}
+
+/// A message of this type and length with these judged fields: mostly legal, sometimes damaged.
+pub fn made(chance: &mut Chance, kind: u8, len: usize, fields: &[Field]) -> Vec<u8> {
     let mut message: Vec<u8> = (0..len).map(|_| chance.byte()).collect();
     message[0] = kind;
     for &field in fields {
@@ -44,8 +50,7 @@ pub fn message(chance: &mut Chance) -> (bool, Vec<u8>) {
         }
         _ => {}
     }
-    // Now and then the caller says the wrong one, which tells the twins U and M apart.
-    (inbound != chance.one_in(30), message)
+    message
 }
 
 /// Fills a judged field with what is mostly legal there.
@@ -59,6 +64,8 @@ fn fill(chance: &mut Chance, message: &mut [u8], (at, judged): Field) {
         }
         Judged::Token => message[at..at + 14].copy_from_slice(&new_token(chance)),
         Judged::Letter(legal) => message[at] = chance.pick(legal),
+        Judged::Blank => message[at..at + 6].fill(b' '),
+        Judged::Zero => message[at..at + 2].fill(0),
         // No message has a price that is judged.
         Judged::Price => {}
     }

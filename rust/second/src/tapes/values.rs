@@ -14,9 +14,10 @@ pub const GOOD_STOCKS: [[u8; 8]; 6] = [
     *b"ABCDEFGH",
     *b"ZZZZZZZZ",
 ];
-/// And some that aren't.
-const BAD_STOCKS: [[u8; 8]; 11] = [
+/// And some that aren't; of two only one end tells that they aren't all spaces.
+pub const BAD_STOCKS: [[u8; 8]; 12] = [
     *b"        ",
+    *b"       A",
     *b" IBM    ",
     *b"IB M    ",
     *b"IBm     ",
@@ -27,6 +28,11 @@ const BAD_STOCKS: [[u8; 8]; 11] = [
     *b"MSFTMSF1",
     *b"\0\0\0\0\0\0\0\0",
     *b"A      A",
+];
+
+/// Firms that are mostly unlisted. Zeros are what stands past the last firm.
+const ODD_FIRMS: [[u8; 4]; 7] = [
+    *b"ZZZZ", *b"    ", [0; 4], *b"   A", *b"abcd", *b"ABC\0", *b"ABCE",
 ];
 
 /// Equal to the last, growing, and now and then below it or at the day's end.
@@ -128,13 +134,23 @@ pub fn time_and_minimum(chance: &mut Chance, shares: u32) -> (u32, u32) {
     }
 }
 
-/// A firm: blank, listed or, seldom, neither. Zeros are the places past the count.
+/// A firm for an order: blank, listed or, seldom, neither.
 pub fn firm(chance: &mut Chance, look: &Look) -> [u8; 4] {
     let firms = look.firms();
     match chance.below(25) {
-        0 => chance.pick(&[*b"ZZZZ", *b"    ", [0; 4], *b"   A", *b"abcd", *b"ABC\0"]),
+        0 => chance.pick(&ODD_FIRMS),
         1..=12 => *b"    ",
         _ => chance.choose(&firms).copied().unwrap_or(*b"ABCD"),
+    }
+}
+
+/// A firm for the purge port, where a blank one isn't the default: mostly listed.
+pub fn port_firm(chance: &mut Chance, look: &Look) -> [u8; 4] {
+    let listed = look.firms();
+    match chance.below(14) {
+        0 | 1 => chance.pick(&ODD_FIRMS),
+        2 => *b"    ",
+        _ => chance.choose(&listed).copied().unwrap_or(*b"ABCD"),
     }
 }
 
@@ -145,9 +161,8 @@ pub fn stock(chance: &mut Chance, look: &Look) -> [u8; 8] {
         2 => near_symbol(chance, look),
         3 | 4 => chance.pick(&GOOD_STOCKS),
         5 => {
-            // Whatever its form, since a list may have any.
             let state = chance.pick(b"TH");
-            symbol_in(chance, look, state)
+            odd_symbol_in(chance, look, state)
         }
         6..=11 => stock_in(chance, look, b'H'),
         _ => stock_in(chance, look, b'T'),
@@ -167,6 +182,15 @@ pub fn symbol_in(chance: &mut Chance, look: &Look, state: u8) -> [u8; 8] {
     let any = chance.pick(&GOOD_STOCKS);
     let listed = look.stocks_in(state);
     chance.choose(&listed).copied().unwrap_or(any)
+}
+
+/// A listed symbol in this state that no stock has, since a list may have any, or whatever is listed
+/// where there is none.
+fn odd_symbol_in(chance: &mut Chance, look: &Look, state: u8) -> [u8; 8] {
+    let any = symbol_in(chance, look, state);
+    let mut odd = look.stocks_in(state);
+    odd.retain(|symbol| !well_formed(symbol));
+    chance.choose(&odd).copied().unwrap_or(any)
 }
 
 /// A symbol that differs from a listed one in a single byte, and is mostly unlisted.

@@ -58,6 +58,9 @@ fn kind_and_length_come_before_stamp_and_token() {
         token_only(b'f', 2, "A"),
         system(2, b'S'),
         halt(2, b"IBM     ", b'H'),
+        mass_cancel(2, b"ABCD", b"IBM     "),
+        firm_only(b'd', 2, b"ABCD"),
+        firm_only(b'n', 2, b"ABCD"),
     ] {
         let bad_stamp = [&entry[..1], &[0xff; 8], &entry[9..]].concat();
         assert_eq!(desk.answer(&bad_stamp), 3);
@@ -69,10 +72,10 @@ fn kind_and_length_come_before_stamp_and_token() {
 }
 
 #[test]
-fn only_the_twelve_kinds_are_known() {
+fn only_the_fifteen_kinds_are_known() {
     let mut desk = Desk::open(1);
     for kind in 0..=255_u8 {
-        let known = b"OUXMecqplfsh".contains(&kind);
+        let known = b"OUXMecqplfshwdn".contains(&kind);
         let answers: Vec<u8> = (0..100)
             .map(|len| {
                 let mut entry = vec![0xff; len];
@@ -102,6 +105,9 @@ fn lengths_are_the_papers() {
         (b'f', 23),
         (b's', 10),
         (b'h', 18),
+        (b'w', 21),
+        (b'd', 13),
+        (b'n', 13),
     ];
     for (kind, len) in lengths {
         let mut entry = vec![0xff; len];
@@ -352,6 +358,7 @@ fn every_message_needs_its_whole_length() {
         (Desk::worked(), self_match(5, "A", 1), 37),
         (Desk::worked(), priority(5, "A", 1), 36),
         (pending, token_only(b'f', 5, "A"), 28),
+        (Desk::worked(), mass_cancel(5, b"ABCD", b"        "), 28),
     ];
     for (desk, entry, len) in cases {
         let kind = char::from(entry[0]);
@@ -378,6 +385,8 @@ fn entries_without_a_message_need_no_room() {
     assert_eq!(desk.answer(&token_only(b'f', 4, "A")), 0);
     assert_eq!(desk.flags(0), 0);
     assert_eq!(desk.answer(&halt(4, b"IBM     ", b'H')), 0);
+    assert_eq!(desk.answer(&firm_only(b'd', 4, b"ABCD")), 0);
+    assert_eq!(desk.answer(&firm_only(b'n', 4, b"ABCD")), 0);
     assert_eq!(desk.held, desk.ring.len());
 }
 

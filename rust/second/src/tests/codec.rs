@@ -3,6 +3,7 @@
 use super::kit::{first_bad, told_at};
 use crate::field::{Side, Stamp, Token};
 use crate::messages::*;
+use crate::port::{DisableRequest, EnableRequest, MassCancelRequest};
 use crate::shares::{Removed, Total};
 use crate::tapes::judged::{Field, Judged, of_message, places};
 use crate::{Answer, Fields, Message, Told, echo};
@@ -53,7 +54,9 @@ impl Shape {
                 }
                 Judged::Token => message[at..at + 14].copy_from_slice(b"Az 09 aZ  zA1 "),
                 Judged::Letter(legal) => message[at] = legal[0],
-                Judged::Price => unreachable!("no message has one that is judged"),
+                Judged::Price | Judged::Blank | Judged::Zero => {
+                    unreachable!("no message of OUCH has one that is judged")
+                }
             }
         }
         message
@@ -292,6 +295,9 @@ fn layouts_have_no_gaps() {
     no_gaps::<CancelReject>();
     no_gaps::<PriorityUpdate>();
     no_gaps::<Modified>();
+    no_gaps::<MassCancelRequest>();
+    no_gaps::<DisableRequest>();
+    no_gaps::<EnableRequest>();
     let record = crate::order::Order::PLACES;
     assert_eq!(
         record.iter().fold(1, |at, &(place, len)| if place == at {

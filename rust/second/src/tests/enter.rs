@@ -101,10 +101,12 @@ fn the_first_fault_in_the_papers_order_is_sent() {
     let mut order = all_wrong;
     let mut expect = |letter, mend: fn(&mut O)| {
         let mut desk = Desk::open(1).with_state(b"ABCDEFGH", b'H');
+        desk.sent(&firm_only(b'd', 2, b"ABCD"));
         assert_eq!(desk.sent(&order.entry(2)), rejected(2, "A", letter));
         mend(&mut order);
     };
-    expect(b'L', |o| o.firm = *b"EF  ");
+    expect(b'L', |o| o.firm = *b"ABCD");
+    expect(b'a', |o| o.firm = *b"EF  ");
     expect(b'S', |o| o.stock = *b"ZZZZ    ");
     expect(b'S', |o| o.stock = *b"ABCDEFGH");
     expect(b'H', |o| o.stock = *b"ZZZZZZZZ");

@@ -180,6 +180,11 @@ impl Desk {
         )
     }
 
+    /// The byte of the firms' blocks.
+    pub fn blocks(&self) -> u8 {
+        self.table[3]
+    }
+
     pub fn flags(&self, place: usize) -> u8 {
         self.row(place)[64]
     }
@@ -211,6 +216,8 @@ pub fn first_bad(bytes: &[u8], fields: &[Field]) -> Option<usize> {
             let price = number(&bytes[at..at + 4]);
             (price == 0 || price > 1_999_999_900).then_some(at)
         }
+        Judged::Blank => (bytes[at..at + 6] != *b"      ").then_some(at),
+        Judged::Zero => (number(&bytes[at..at + 2]) != 0).then_some(at),
     };
     fields.iter().filter_map(bad).min()
 }
@@ -394,6 +401,15 @@ pub fn system(stamp: u64, code: u8) -> Vec<u8> {
 
 pub fn halt(stamp: u64, symbol: &[u8; 8], state: u8) -> Vec<u8> {
     [b"h".as_slice(), &stamp.to_be_bytes(), symbol, &[state]].concat()
+}
+
+pub fn mass_cancel(stamp: u64, firm: &[u8; 4], symbol: &[u8; 8]) -> Vec<u8> {
+    [firm_only(b'w', stamp, firm).as_slice(), symbol].concat()
+}
+
+/// d and n, and the opening of w.
+pub fn firm_only(kind: u8, stamp: u64, firm: &[u8; 4]) -> Vec<u8> {
+    [[kind].as_slice(), &stamp.to_be_bytes(), firm].concat()
 }
 
 /// A list of these stocks, sorted by their bytes.

@@ -5,7 +5,7 @@ use crate::tapes::judged::{ENTRIES, Judged, of_entry, places};
 use crate::{Answer, Host, Outbox, Stocks, Told};
 
 /// A legal entry of each kind, for a desk where "A" is live.
-fn legal_entries() -> [Vec<u8>; 12] {
+fn legal_entries() -> [Vec<u8>; 15] {
     [
         O::good("B").entry(4),
         replace(4, "A", "B", 500),
@@ -19,6 +19,9 @@ fn legal_entries() -> [Vec<u8>; 12] {
         token_only(b'f', 4, "A"),
         system(4, b'E'),
         halt(4, b"IBM     ", b'H'),
+        mass_cancel(4, b"ABCD", b"IBM     "),
+        firm_only(b'd', 4, b"ABCD"),
+        firm_only(b'n', 4, b"ABCD"),
     ]
 }
 
@@ -54,6 +57,9 @@ fn each_judged_field_of_each_kind_tells_its_first_byte() {
         (b'f', &[1, 9]),
         (b's', &[1, 9]),
         (b'h', &[1, 17]),
+        (b'w', &[1]),
+        (b'd', &[1]),
+        (b'n', &[1]),
     ] {
         let entries = legal_entries();
         let entry = entries.iter().find(|entry| entry[0] == kind).unwrap();
@@ -177,6 +183,7 @@ fn every_other_answer_has_place_0() {
         (Desk::worked(), O::good("B").entry(2), 4),
         (Desk::worked(), execution(4, "Z", 1), 5),
         (Desk::worked(), halt(4, b"ZZZ     ", b'H'), 5),
+        (Desk::worked(), firm_only(b'd', 4, b"    "), 15),
         (Desk::worked(), execution(4, "A", 0), 6),
         (Desk::worked(), system(4, b'S'), 7),
         (Desk::open(1), replace(4, "A", "B", 1), 1),

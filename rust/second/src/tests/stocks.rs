@@ -283,6 +283,7 @@ fn nothing_else_asks_for_the_stock() {
         self_match(5, "A", 1),
         priority(5, "A", 1),
         system(5, b'E'),
+        mass_cancel(5, b"ABCD", b"IBM     "),
     ];
     for entry in entries {
         for desk in [Desk::worked(), Desk::worked().with_stocks(&[])] {

@@ -121,7 +121,11 @@ fn the_headers_bytes_are_judged() {
         (1, b"\x09", false),
         (1, b"\xff", false),
         (2, b"\x01", false),
-        (3, b"\x01", false),
+        (3, b"\x01", true), // two firms, two bits
+        (3, b"\x03", true),
+        (3, b"\x04", false),
+        (3, b"\x07", false),
+        (3, b"\x80", false),
         (28, b"a", false),
         (28, b"    ", false),
         (32, b"ABCD", true), // equal firms are legal
@@ -176,6 +180,23 @@ fn eight_firms_fill_the_places() {
     assert_eq!(fresh(&mut table, 5, &[*b"ABCD"; 8]), 0);
     assert!(sound(&table));
     assert!(!sound(&with(&table, 1, &[7])));
+}
+
+/// Each count of firms with each byte: bits may stand for the firms that there are.
+#[test]
+fn blocks_are_bits_of_the_firms_that_there_are() {
+    for count in 1..=8_u32 {
+        let mut table = vec![0; 144];
+        let firms = vec![*b"ABCD"; count as usize];
+        assert_eq!(fresh(&mut table, 5, &firms), 0);
+        assert_eq!(table[3], 0, "a fresh table blocks none");
+        for byte in 0..=255_u8 {
+            let blocked = with(&table, 3, &[byte]);
+            assert_eq!(sound(&blocked), u32::from(byte) < 1 << count, "{byte}");
+            let image = Host::load(&blocked).map(|host| host.image());
+            assert!(image.is_none_or(|image| image == blocked), "{byte}");
+        }
+    }
 }
 
 #[test]

@@ -130,6 +130,7 @@ impl Run {
         );
         assert_eq!(self.table[8..16], entry[1..9]);
         assert_eq!(self.table[24..64], table[24..64], "settings never change");
+        assert_eq!(self.table[3], blocks_after(table, entry));
         let (used, used_before) = (number(&self.table[4..8]), number(&table[4..8]));
         assert!(used == used_before || used == used_before + 1);
         let unused_from = 64 + 80 * used as usize;
@@ -227,6 +228,17 @@ fn list_after(list: &[u8], entry: &[u8], answer: u8) -> Vec<u8> {
     list
 }
 
+/// What the blocks must be after a done entry: only d and n change them, at their firm's first place.
+fn blocks_after(table: &[u8], entry: &[u8]) -> u8 {
+    let mut firms = table[28..60].chunks_exact(4);
+    let place = firms.position(|firm| entry.get(9..13) == Some(firm));
+    match (entry[0], place) {
+        (b'd', Some(place)) => table[3] | 1 << place,
+        (b'n', Some(place)) => table[3] & !(1 << place),
+        _ => table[3],
+    }
+}
+
 /// Runs tapes and gives all that was seen.
 fn run_tapes(seeds: std::ops::Range<u64>, entries: usize) -> BTreeSet<String> {
     let mut seen = BTreeSet::new();
@@ -252,8 +264,9 @@ fn tapes_reach_every_answer_message_and_reason() {
             missing.push(what);
         }
     };
-    (0..=9).for_each(|answer| want(format!("answer {answer}")));
-    "CLSHRDXZN"
+    let answers = (0..=9).chain([15]);
+    answers.for_each(|answer| want(format!("answer {answer}")));
+    "CLaSHRDXZN"
         .chars()
         .for_each(|reason| want(format!("O J {reason}")));
     "ITSDZE"
@@ -261,7 +274,8 @@ fn tapes_reach_every_answer_message_and_reason() {
         .for_each(|reason| want(format!("c C {reason}")));
     for what in [
         "O A  ", "U J C", "U J R", "U J H", "U C U", "U U  ", "X C U", "X P  ", "X I  ", "M M  ",
-        "e E  ", "q D  ", "p T  ", "l -  ", "f -  ", "f C U", "s S  ", "h -  ",
+        "e E  ", "q D  ", "p T  ", "l -  ", "f -  ", "f C U", "s S  ", "h -  ", "w C U", "d -  ",
+        "n -  ",
     ] {
         want(what.to_string());
     }
@@ -333,7 +347,8 @@ fn sound_by_bytes(table: &[u8]) -> bool {
         && (1..=8).contains(&count)
         && firms[..count].iter().all(|firm| shaped(firm))
         && firms[count..].iter().all(|firm| number(firm) == 0)
-        && number(&table[2..4]) + number(&table[60..64]) == 0
+        && number(&table[2..3]) + number(&table[60..64]) == 0
+        && number(&table[3..4]) < 1 << count
         && used <= (table.len() as u64 - 64) / 80
         && number(&table[8..16]) < 86_400_000_000_000
         && number(&table[16..24]).wrapping_sub(1) < 10_u64.pow(18)
@@ -428,7 +443,7 @@ fn a_tape_can_be_made_for_any_bytes() {
         let list: Vec<u8> = (0..chance.place(40)).map(|_| chance.byte()).collect();
         lengths.insert(tapes.entry(&table, &list).len());
     }
-    for len in [10, 18, 23, 27, 28, 36, 40, 55, 56] {
+    for len in [10, 13, 18, 21, 23, 27, 28, 36, 40, 55, 56] {
         assert!(lengths.contains(&len), "never made: {len}");
     }
 }

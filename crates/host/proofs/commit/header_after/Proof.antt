@@ -9,4 +9,4 @@ unfolding headerAfter
 returns c = cc
 
 pub header-after-spec : {M : Type 1} → statement M
-header-after-spec = tie.close (tie.spec unasked unasked (λ c κs. search needs) (λ c κs. search needs) returns)
+header-after-spec = tie.close (tie.spec unasked unasked unasked (λ c κs. search needs) (λ c κs. search needs) returns)

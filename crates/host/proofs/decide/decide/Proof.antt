@@ -55,7 +55,19 @@ returns-12 c = rw (sym (c .before .before .before .kind-of .ensures) ∙ c .befo
 
 returns-13 : tie.Need-returns-13
 unfolding decideBy
-returns-13 c = rw (sym (c .before .before .before .kind-of .ensures) ∙ c .before .enum-told13 .given .1) (cc)
+returns-13 c = rw (sym (c .before .before .before .before .kind-of .ensures) ∙ c .before .before .enum-told13 .given .1) (cc)
+
+returns-14 : tie.Need-returns-14
+unfolding decideBy
+returns-14 c = rw (sym (c .before .before .before .before .kind-of .ensures) ∙ c .before .before .enum-told14 .given .1) (cc)
+
+returns-15 : tie.Need-returns-15
+unfolding decideBy
+returns-15 c = rw (sym (c .before .before .before .before .kind-of .ensures) ∙ c .before .before .enum-told15 .given .1) (cc)
+
+returns-16 : tie.Need-returns-16
+unfolding decideBy
+returns-16 c = rw (sym (c .before .before .before .kind-of .ensures) ∙ c .before .enum-told16 .given .1) (cc)
 
 pub decide-spec : {M : Type 1} → statement M
 decide-spec =
@@ -93,6 +105,15 @@ decide-spec =
     (λ c. search needs)
     (λ c κs. (long-as _ (c .before .before .before .before .before .before .pre .0) (c .before .before .kind-of .ensures) (c .enum-told12 .given .1), c .before .before .before .before .before .before .pre .1))
     (λ c. search needs)
+    (λ c κs. long-as _ (c .before .before .before .before .before .before .pre .0) (c .before .before .kind-of .ensures) (c .enum-told13 .given .1))
+    unasked
+    (λ c. search needs)
+    (λ c κs. long-as _ (c .before .before .before .before .before .before .pre .0) (c .before .before .kind-of .ensures) (c .enum-told14 .given .1))
+    unasked
+    (λ c. search needs)
+    (λ c κs. long-as _ (c .before .before .before .before .before .before .pre .0) (c .before .before .kind-of .ensures) (c .enum-told15 .given .1))
+    unasked
+    (λ c. search needs)
     unasked
     returns
     returns-2
@@ -106,4 +127,7 @@ decide-spec =
     returns-10
     returns-11
     returns-12
-    returns-13)
+    returns-13
+    returns-14
+    returns-15
+    returns-16)

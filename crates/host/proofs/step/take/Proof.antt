@@ -16,6 +16,12 @@ returns c =
     early-leaves (world (start .args .table .now) (start .args .ring .now) (start .args .marks) (start .args .stocks .now)) _ (start .pre .1 .1 .1)
     (omega (arith, stamped .stamp-of .ensures, last, c .if1 .taken))
 
+named-place-requires : tie.Need-named-place-requires
+named-place-requires c κs =
+    let stamped = c .before .before .before in
+    let start = stamped .before .before .before .before .before .before .before in
+    judged-good _ (start .pre .1 .1 .1) .0
+
 comes-to-requires : tie.Need-comes-to-requires
 comes-to-requires c κs =
     let placed = c .before .before in
@@ -54,4 +60,4 @@ returns-2 c =
 pub take-spec : {M : Type 1} → statement M
 take-spec =
     tie.close (tie.spec unasked (λ c κs. stamp-fits _ (judged-good _ (c .before .before .before .before .before .before .pre .1 .1 .1) .0))
-    (λ c. search needs) returns unasked comes-to-requires settle-requires (λ c. search needs) (λ c. search needs) (λ c. search needs) returns-2)
+    (λ c. search needs) returns named-place-requires comes-to-requires settle-requires (λ c. search needs) (λ c. search needs) (λ c. search needs) returns-2)

@@ -10,4 +10,4 @@ returns c = cc
 
 pub enter-fault-spec : {M : Type 1} → statement M
 enter-fault-spec =
-    tie.close (tie.spec unasked unasked unasked unasked unasked unasked unasked unasked unasked unasked returns)
+    tie.close (tie.spec unasked unasked unasked unasked unasked unasked unasked unasked unasked returns)

@@ -1,0 +1,4 @@
+pub mod Types
+pub mod Listed
+pub mod Purge
+pub mod Blocking

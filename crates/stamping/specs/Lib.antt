@@ -1,0 +1,2 @@
+pub mod Stamping
+pub mod Told
