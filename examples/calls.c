@@ -19,6 +19,7 @@ static const char disable[] = "D\0\0\0\2ABCD      ";
 static const char enable[] = "E\0\0\0\3ABCD      ";
 
 static uint8_t table[PQ_TABLE_SIZE(4)], ring[PQ_SHORTEST_RING], out[PQ_LONGEST_MESSAGE], made[PQ_LONGEST_ENTRY];
+static uint8_t old[PQ_OLD_TABLE_SIZE(4)], rebuilt[PQ_TABLE_SIZE(4)];
 static uint8_t stocks[] = {'A', 'B', 'C', ' ', ' ', ' ', ' ', ' ', 'T'};
 static struct pq_host host;
 static size_t place;
@@ -49,11 +50,12 @@ static uint8_t step(const uint8_t *entry, size_t length)
 
 static void freshes(void)
 {
-    is("fresh of 143 bytes, threshold 0", PQ_NOT_SOUND, pq_fresh(table, 143, 0, BYTES("ABCD")));
+    is("fresh of 144 bytes, as one record took in the old form, threshold 0", PQ_NOT_SOUND, pq_fresh(table, 144, 0, BYTES("ABCD")));
     is("fresh, threshold 0", PQ_BAD_FIELD, pq_fresh(table, sizeof table, 0, BYTES("ABCD")));
     is("fresh, firms of 5 bytes", PQ_BAD_FIELD, pq_fresh(table, sizeof table, PQ_HIGHEST_THRESHOLD, BYTES("ABCDE")));
     is("fresh, nine firms", PQ_BAD_FIELD, pq_fresh(table, sizeof table, PQ_HIGHEST_THRESHOLD, BYTES("A   B   C   D   E   F   G   H   I   ")));
     is("fresh", PQ_DONE, pq_host_fresh(&host, PQ_HIGHEST_THRESHOLD, BYTES("ABCD")));
+    is("its form", 1, table[2]);
 }
 
 static void steps(void)
@@ -215,6 +217,84 @@ static void purges(void)
     table[3] = 0;
 }
 
+/* Whether the host's status has these numbers, and the table the bits. */
+static void counts(const char *when, size_t live_should, size_t open_should, uint8_t bits_should)
+{
+    size_t live = SIZE_MAX, open = SIZE_MAX;
+    printf("%s:\n", when);
+    is("status", PQ_DONE, pq_host_status(&host, &live, &open));
+    is("live orders", live_should, live);
+    is("open shares", open_should, open);
+    is("bits", bits_should, table[PQ_OLD_TABLE_SIZE(4)]);
+}
+
+/* The status screen: what is counted goes with every entry. */
+static void statuses(void)
+{
+    size_t live = SIZE_MAX, open = SIZE_MAX;
+    is("fresh", PQ_DONE, pq_host_fresh(&host, PQ_HIGHEST_THRESHOLD, BYTES("ABCD")));
+    counts("a fresh table", 0, 0, 0);
+    is("start of the day", PQ_DONE, step(BYTES(start)));
+    is("first order", PQ_DONE, order('1'));
+    is("second order", PQ_DONE, order('2'));
+    is("third order", PQ_DONE, order('3'));
+    counts("three orders of 500", 3, 1500, 7);
+    is("second order cancelled to 100", PQ_DONE, offer(0, BYTES("XTOKEN2        \0\0\0\144")));
+    counts("one of them of 100", 3, 1100, 7);
+    is("second order cancelled", PQ_DONE, offer(0, BYTES("XTOKEN2        \0\0\0\0")));
+    counts("the second dead", 2, 1000, 5);
+    is("purge of the first", PQ_DONE, offer(1, BYTES(mass_cancel)));
+    counts("the third left", 1, 500, 4);
+    is("status a byte short", PQ_NOT_SOUND, pq_status(table, sizeof table - 1, &live, &open));
+    is("live orders", 0, live);
+    is("open shares", 0, open);
+}
+
+/* A table that doesn't count right is not sound, and a status believes it. */
+static void miscounts(void)
+{
+    size_t live = SIZE_MAX, open = SIZE_MAX;
+    uint8_t *bits = table + PQ_OLD_TABLE_SIZE(4);
+    *bits ^= 1;
+    is("a dead order's bit", PQ_NOT_SOUND, step(BYTES(cancel)));
+    counts("as the bits have it", 2, 500, 5);
+    *bits ^= 1 | 16;
+    is("a spare bit", PQ_NOT_SOUND, step(BYTES(cancel)));
+    *bits ^= 16;
+    table[63]++;
+    is("a share too many", PQ_NOT_SOUND, step(BYTES(cancel)));
+    counts("as the sum has it", 1, 501, 4);
+    table[63]--;
+    table[2] = 0;
+    is("the old form", PQ_NOT_SOUND, step(BYTES(cancel)));
+    is("its status", PQ_NOT_SOUND, pq_host_status(&host, &live, &open));
+    is("live orders", 0, live);
+    is("open shares", 0, open);
+    table[2] = 1;
+    is("as it was", PQ_IGNORED, offer(0, BYTES("XTOKEN1        \0\0\0\0")));
+}
+
+/* An old table is the present one without bits, sum and form. */
+static void conversions(void)
+{
+    memcpy(old, table, sizeof old);
+    old[2] = 0;
+    memset(old + 60, 0, 4);
+    memset(rebuilt, '?', sizeof rebuilt);
+    is("step on an old table", PQ_NOT_SOUND, pq_step(old, sizeof old, ring, sizeof ring, &host.at, &host.held, stocks, sizeof stocks, BYTES(cancel), &place));
+    is("conversion into a byte less", PQ_NO_ROOM, pq_convert(old, sizeof old, rebuilt, sizeof rebuilt - 1));
+    is("conversion of three records into the bytes of four", PQ_NO_ROOM, pq_convert(old, PQ_OLD_TABLE_SIZE(3), rebuilt, sizeof rebuilt));
+    is("conversion of a table of form 1", PQ_NOT_SOUND, pq_convert(table, sizeof table, rebuilt, sizeof rebuilt));
+    is("conversion of a byte too few", PQ_NOT_SOUND, pq_convert(old, sizeof old - 1, rebuilt, sizeof rebuilt));
+    old[63] = 1;
+    is("an old table with a sum, into a byte less", PQ_NOT_SOUND, pq_convert(old, sizeof old, rebuilt, sizeof rebuilt - 1));
+    old[63] = 0;
+    is("what all these wrote to", '?', rebuilt[0]);
+    is("conversion", PQ_DONE, pq_convert(old, sizeof old, rebuilt, sizeof rebuilt));
+    is("its bytes differ", 0, memcmp(rebuilt, table, sizeof table) != 0);
+    is("the old form", 0, old[2]);
+}
+
 static void wrongs(void)
 {
     size_t past = sizeof ring, none = 0;
@@ -252,6 +332,9 @@ static void nothings(void)
     is("echo into no buffer", PQ_NO_ROOM, pq_echo(1, BYTES(message), NULL, 0, &place));
     is("entry of no message", PQ_MALFORMED, pq_entry(1, 4, NULL, 0, made, sizeof made, &place));
     is("entry into no buffer", PQ_NO_ROOM, pq_entry(1, 4, BYTES(disable), NULL, 0, &place));
+    is("conversion of no table", PQ_NOT_SOUND, pq_convert(NULL, 0, rebuilt, sizeof rebuilt));
+    is("conversion into no table", PQ_NO_ROOM, pq_convert(old, sizeof old, NULL, 0));
+    is("status of no table", PQ_NOT_SOUND, pq_status(NULL, 0, &zero, &none));
 }
 
 /* The lengths of all kinds and types, and that there are no others. */
@@ -287,6 +370,9 @@ int main(void)
     halts();
     entries();
     purges();
+    statuses();
+    miscounts();
+    conversions();
     wrongs();
     echoes();
     nothings();

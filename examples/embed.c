@@ -1,7 +1,8 @@
 /*
  * A driver in C with the shortest ring and a slow reader: plays the tape on standard input, and writes what the host sends to standard output.
  * An entry that is blocked waits until the reader has made room, so what is sent is what a roomy ring would send; the driver plays the tape
- * beside one to show it. With a word, `embed purge`, the purge button is pressed when the tape has ended.
+ * beside one to show it. With a word, `embed purge`, the purge button is pressed when the tape has ended; with another, `embed kept`, the day goes
+ * on from a table that was kept before tables had bits.
  */
 #include "pilaqsevi.h"
 
@@ -35,6 +36,31 @@ static void open_desk(struct desk *desk, size_t ring_len)
     desk->host.stocks = desk->stocks;
     desk->host.stocks_len = sizeof desk->stocks;
     pq_host_fresh(&desk->host, PQ_HIGHEST_THRESHOLD, (const uint8_t *)"ABCD", PQ_FIRM_SIZE);
+}
+
+/*
+ * What a driver of the old form kept of a morning: the day is open, and the only order is ABCD's, ORDER1, to buy 500 ABC at 150.0000. The header
+ * has the day, firms, used records, last stamp, next reference, threshold and the firm; what neither of the two has is zeros.
+ */
+static const char kept_header[] = "\1\1\0\0" "\0\0\0\1" "\0\0\37\32\316\331\360\0" "\0\0\0\0\0\0\0\2" "\0\17\102\100" "ABCD";
+static const char kept_order[] = "LORDER1        B" "\0\0\1\364\0\0\0\0\0\0\0\0" "ABC     " "\0\26\343\140" "\0\0\0\0" "ABCDYAN"
+                                 "\0\0\0\0" "N" "\0\0\0\0\0\0\0\1";
+
+/* Goes on from the old table: it is rebuilt in the desk's, which has the records of it and so the length. */
+static uint8_t take_over(struct desk *desk)
+{
+    static uint8_t old[PQ_OLD_TABLE_SIZE(PQ_MOST_RECORDS)];
+    memcpy(old, kept_header, sizeof kept_header - 1);
+    memcpy(old + PQ_HEADER_SIZE, kept_order, sizeof kept_order - 1);
+    return pq_convert(old, sizeof old, desk->table, sizeof desk->table);
+}
+
+/* What a status screen shows. The table has both numbers at hand, so that it may be asked after every entry. */
+static void tell_status(void)
+{
+    size_t live, open;
+    if (pq_host_status(&small.host, &live, &open) == PQ_DONE)
+        fprintf(stderr, "%zu live, %zu shares open\n", live, open);
 }
 
 static uint8_t offer(struct desk *desk, const uint8_t *entry, size_t length)
@@ -132,12 +158,20 @@ int main(int words, char **word)
     uint64_t now = 0;
     open_desk(&small, PQ_SHORTEST_RING);
     open_desk(&roomy, ROOMY);
+    if (words > 1 && strcmp(word[1], "kept") == 0) {
+        fprintf(stderr, "old table answered %d\n", take_over(&small));
+        take_over(&roomy);
+        tell_status();
+    }
     for (size_t length; answer != PQ_MALFORMED && (length = next_entry(entry)) > 0;) {
         answer = play(entry, length);
         now = answer == PQ_DONE ? stamp_of(entry) : now;
     }
-    if (words > 1 && strcmp(word[1], "purge") == 0)
+    tell_status();
+    if (words > 1 && strcmp(word[1], "purge") == 0) {
         purge(now);
+        tell_status();
+    }
     while (small.host.held > 0)
         read_piece();
     fprintf(stderr, "%zu bytes sent, %zu offers blocked; through a ring of %zu %s\n", sent, blocked, roomy.host.ring_len,

@@ -3,10 +3,10 @@
  *
  * All memory is the caller's. A function reads and writes the bytes that it is given while it runs, keeps no pointer, allocates nothing and
  * holds no state of its own. Pointers and lengths must be true, and memory that one call is given to write must not overlap anything else that
- * it is given. Where a length is 0 its pointer is not followed and may be NULL; `at`, `held` and `place` are pointers to one number each and may
- * not. Nothing else is asked: every other value is judged and answered.
+ * it is given. Where a length is 0 its pointer is not followed and may be NULL; `at`, `held`, `place`, `live` and `open` are pointers to one
+ * number each and may not. Nothing else is asked: every other value is judged and answered.
  *
- * A driver had best keep a struct pq_host, which holds all that is lent, and use the four functions over it (at the end of this file): what a
+ * A driver had best keep a struct pq_host, which holds all that is lent, and use the five functions over it (at the end of this file): what a
  * step is lent may grow, and such a driver is not touched by it.
  *
  * Threads: there is no state but what is lent, so calls on different tables, rings and lists may run at once; calls that share a table, a ring
@@ -42,7 +42,7 @@ enum pq_answer {
     PQ_NOT_SOUND = 10,    /* table not sound */
     PQ_WRONG_RING = 11,   /* ring length or marks wrong */
     PQ_NOT_HELD = 12,     /* release above the held count */
-    PQ_NO_ROOM = 13,      /* buffer too short for the echo's message, or for the entry that is made */
+    PQ_NO_ROOM = 13,      /* buffer too short for the echo's message or for the entry that is made, or not exactly as long as the rebuilt table */
     PQ_WRONG_STOCKS = 14, /* list of stocks of a wrong length, not ascending, or with another state */
     PQ_UNLISTED_FIRM = 15 /* firm of w, d or n not listed */
 };
@@ -64,17 +64,34 @@ enum pq_answer {
 #define PQ_LONGEST_ENTRY 56   /* kind and stamp included */
 #define PQ_LONGEST_MESSAGE 80 /* as long as the shortest ring, so a ring that holds nothing has room for any message */
 
-/* The bytes of a table with so many records, and of a list with so many stocks. */
-#define PQ_TABLE_SIZE(records) (PQ_HEADER_SIZE + PQ_RECORD_SIZE * (records))
+/* The bytes of a table with so many records: a header, the records, and a bit for each; of one in the old form; of a list with so many stocks. */
+#define PQ_TABLE_SIZE(records) (PQ_HEADER_SIZE + PQ_RECORD_SIZE * (records) + ((records) + 7) / 8)
+#define PQ_OLD_TABLE_SIZE(records) (PQ_HEADER_SIZE + PQ_RECORD_SIZE * (records))
 #define PQ_STOCKS_SIZE(stocks) (PQ_STOCK_SIZE * (stocks))
 
 /*
- * Makes the bytes at `table` a fresh table: day not begun, no record used, no firm blocked, next reference 1, these settings, zeros elsewhere.
- * Its length is PQ_TABLE_SIZE of 1 to 800 records. The firms are 1 to 8 codes, one after the other, each 1 to 4 capitals and then spaces; the
- * first is the default. firms_len counts bytes.
+ * What a table keeps so that nobody has to count: bytes 60 to 63 of its header are the open shares of all live orders, added up, the highest byte
+ * first, and behind its records stand bits, one for each, the lowest bit of the first byte for the first record. A bit is set exactly while its
+ * record is used and its order is live, and the spare bits of the last byte are zero. Every call keeps this so, and a table in which it is not so is
+ * not sound. Byte 2, the form, is 1. The old form had zeros there and in bytes 60 to 63, and no bits: such a table is not sound either, and
+ * pq_convert rebuilds it.
+ */
+
+/*
+ * Makes the bytes at `table` a fresh table: day not begun, no record used, no firm blocked, next reference 1, form 1, these settings, zeros
+ * elsewhere. Its length is PQ_TABLE_SIZE of 1 to 800 records. The firms are 1 to 8 codes, one after the other, each 1 to 4 capitals and then
+ * spaces; the first is the default. firms_len counts bytes.
  * Answers PQ_NOT_SOUND for a bad table_len; PQ_BAD_FIELD for bad settings, a firms_len that is no row of codes among them; PQ_DONE.
  */
 uint8_t pq_fresh(uint8_t *table, size_t table_len, uint32_t threshold, const uint8_t *firms, size_t firms_len);
+
+/*
+ * Rebuilds a table of the old form, which was kept from before, in a second buffer. old_len is PQ_OLD_TABLE_SIZE of 1 to 800 records, and table_len
+ * PQ_TABLE_SIZE of as many. What is written there is the old header with form 1 and the sum in bytes 60 to 63, the old records, unused ones as they
+ * are, and the bits. The old table stays as it is, and the two may not overlap.
+ * Answers PQ_NOT_SOUND where the old table is not sound in its old form, so for every table of form 1; PQ_NO_ROOM for any other table_len; PQ_DONE.
+ */
+uint8_t pq_convert(const uint8_t *old_table, size_t old_len, uint8_t *table, size_t table_len);
 
 /*
  * Takes one entry: judges table, ring, marks, list and entry, decides, and where the answer is PQ_DONE writes the table and puts the entry's
@@ -94,6 +111,14 @@ uint8_t pq_fresh(uint8_t *table, size_t table_len, uint32_t threshold, const uin
  * of the bad field or, in a token, the first character that no token has; with every other answer it is 0, where no field lies.
  */
 uint8_t pq_step(uint8_t *table, size_t table_len, uint8_t *ring, size_t ring_len, size_t *at, size_t *held, uint8_t *stocks, size_t stocks_len, const uint8_t *entry, size_t entry_len, size_t *place);
+
+/*
+ * Tells how many orders are live, and how many shares of them are open in all: *live is the number of ones in the table's bits, and *open what its
+ * bytes 60 to 63 hold. No record is looked at, so a status screen may ask as often as it likes. Over a table that is sound, as every call leaves
+ * it, these are the numbers that counting its orders would give; whether it is sound is not judged.
+ * Answers PQ_NOT_SOUND where table_len or byte 2 is no table's; PQ_DONE. Both numbers are written by every call, with PQ_NOT_SOUND as 0.
+ */
+uint8_t pq_status(const uint8_t *table, size_t table_len, size_t *live, size_t *open);
 
 /*
  * The length of the longest unbroken run of held bytes, which starts at ring + at. 0 where nothing is held, and where the ring's length or
@@ -168,6 +193,12 @@ static inline uint8_t pq_host_step(struct pq_host *host, const uint8_t *entry, s
 {
     return pq_step(host->table, host->table_len, host->ring, host->ring_len, &host->at, &host->held, host->stocks, host->stocks_len, entry,
                    entry_len, place);
+}
+
+/* pq_status of the host's table. */
+static inline uint8_t pq_host_status(const struct pq_host *host, size_t *live, size_t *open)
+{
+    return pq_status(host->table, host->table_len, live, open);
 }
 
 /* pq_read: the length of the longest unbroken run of held bytes, and in *run where it starts; NULL where there is none. */

@@ -10,7 +10,7 @@ pub(crate) fn answers(tally: Tally) -> Tally {
     shown(
         tally,
         b"\
-10 before 11: table, ring of 79           T R79 s                               answer 10, nothing changed
+10 before 11: table, ring of 79           b0 v9 R79 s                           answer 10, nothing changed
 11: ring of 79                            R79 s                                 answer 11, nothing changed
 11 before 2: ring of 79, kind unknown     R79 Z                                 answer 11, nothing changed
 2: kind unknown                           Z                                     answer 2, nothing changed

@@ -28,7 +28,7 @@ h needs no room                           R80 s O500 k h                        
 h: stamp                                  ?1 h                                  answer 3 at 1, nothing changed
 h: stamp and state: the stamp             ?17 ?1 h                              answer 3 at 1, nothing changed
 2: h, a byte short                        <1 h                                  answer 2, nothing changed
-10 before 14: table, list                 T J s                                 answer 10, nothing changed
+10 before 14: table, list                 b0 v9 J s                             answer 10, nothing changed
 11 before 14: ring of 79, list            R79 J s                               answer 11, nothing changed
 14 before 2: list, kind unknown           J Z                                   answer 14, nothing changed
 14: list                                  J s                                   answer 14, nothing changed

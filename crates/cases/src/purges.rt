@@ -48,8 +48,8 @@ d needs no room                           R80 s O500 k d                        
 15: n, firm not listed                    s W9 n                                answer 15, nothing changed
 2: d, a byte short                        <1 d                                  answer 2, nothing changed
 3: n, stamp                               ?1 n                                  answer 3 at 1, nothing changed
-10: a bit past the firm count             P2 s                                  answer 10, nothing changed
-a bit of a listed firm                    P1 s O500                             Rejected a, A rejected, B free, byte 3 is 1
+10: a bit past the firm count             b3 v2 s                               answer 10, nothing changed
+a bit of a listed firm                    b3 v1 s O500                          Rejected a, A rejected, B free, byte 3 is 1
 ",
     )
 }

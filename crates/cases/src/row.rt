@@ -50,7 +50,7 @@ fn compared(words: &[u8], should: &[u8], did: &[u8]) -> bool {
 }
 
 fn tried(row: &[u8]) -> bool {
-    let mut words = [0u8; 128];
+    let mut words = [0u8; 160];
     let n = done(part(row, SCRIPT_FROM, SHOULD_FROM), &mut words);
     compared(
         trimmed(part(row, 0, SCRIPT_FROM)),

@@ -33,6 +33,10 @@ pub struct Run {
     pub cut: usize,
     // whether what is held stays held
     pub keeps: bool,
+    // the place of a byte of the table
+    pub byte: usize,
+    // whether the status call is asked at the end
+    pub asks: bool,
     pub last: Last,
 }
 
@@ -57,6 +61,8 @@ pub(crate) fn begun() -> Run {
         stamp: 34_200,
         cut: 0,
         keeps: false,
+        byte: 0,
+        asks: false,
         last: Last {
             answer: 0,
             place: 0,
@@ -84,6 +90,8 @@ pub(crate) fn sets(letter: u8) -> bool {
         | b'R'
         | b'm'
         | b'W'
+        | b'b'
+        | b'#'
         | b'?' => true,
         _ => false,
     }
@@ -125,6 +133,12 @@ pub(crate) fn set(before: Run, letter: u8, n: u32) -> Run {
         }
         b'R' => {
             run.ring = n as usize;
+        }
+        b'b' => {
+            run.byte = n as usize;
+        }
+        b'#' => {
+            run.asks = true;
         }
         _ => {
             run.name = letter;

@@ -10,15 +10,19 @@
 // <         so many bytes are cut off the next entries
 // R         the ring has so many bytes
 // F V       a fresh table with so many firms; one with this threshold
-// T N P     a byte of the table is damaged; the next reference is the one past the last; header byte 3 has this value
+// b v N     the place of a byte of the table; the byte there has this value; the next reference is the one past the last
+// o i       the table is taken back to its old form; that is converted into a buffer of so many bytes, which is the table if it is done
 // L J       the list has another stock in ABC's place; its state is damaged
 // k g       what is held stays held; what is held is read and released
+// #         at the end the status call is asked too
 //
 // Every other letter is an entry of that kind with so many shares (E: the day ends; h: ABC is halted; y: it trades again; w1 and w2 are about ABC
 // and XYZ, w about all). Unless k was said the ring is emptied before it.
 use crate::entries::entry;
 use crate::entries::size;
 use crate::house::open;
+use crate::older::converted;
+use crate::older::take_back;
 use crate::run::Last;
 use crate::run::Run;
 use crate::run::answered;
@@ -40,7 +44,7 @@ use outbox::release::release;
 pub const STOCKS: [u8; 9] = *b"ABC     T";
 
 // Two records, so that A and B fill the table.
-pub const TABLE_SIZE: usize = 224;
+pub const TABLE_SIZE: usize = 225;
 
 // The reference that the next one is at when none is left: 10^18.
 const PAST_THE_LAST: [u8; 8] = [0x0d, 0xe0, 0xb6, 0xb3, 0xa7, 0x64, 0, 0];
@@ -64,8 +68,8 @@ fn emptied(ring: &[u8], run: Run) -> Run {
 }
 
 // Table, ring and list one after the other, to be held against what they are later.
-fn copied(table: &[u8], ring: &[u8], stocks: &[u8]) -> [u8; 361] {
-    let mut bytes = [0u8; 361];
+fn copied(table: &[u8], ring: &[u8], stocks: &[u8]) -> [u8; 362] {
+    let mut bytes = [0u8; 362];
     let at = put(&mut bytes, 0, table);
     let end = put(&mut bytes, at, ring);
     put(&mut bytes, end, stocks);
@@ -73,7 +77,7 @@ fn copied(table: &[u8], ring: &[u8], stocks: &[u8]) -> [u8; 361] {
 }
 
 // What came of an entry, from table, ring and list before and after it.
-fn last(answer: Answer, was: Marks, marks: Marks, before: [u8; 361], after: [u8; 361]) -> Last {
+fn last(answer: Answer, was: Marks, marks: Marks, before: [u8; 362], after: [u8; 362]) -> Last {
     let same = check::same(&before, &after) & (marks.at == was.at) & (marks.held == was.held);
     Last {
         answer: number(answer),
@@ -110,8 +114,14 @@ fn played(
     offered(table, ring, stocks, run, part(&bytes, 0, size(run, kind)))
 }
 
+// An answer of the converter stands where an entry's would.
+fn rebuilt(table: &mut [u8], run: Run, n: u32) -> Run {
+    let marks = run.marks;
+    answered(run, marks, converted(table, n as usize))
+}
+
 // What a script does to the table and the list beside its entries.
-fn prepared(table: &mut [u8], stocks: &mut [u8], letter: u8, n: u32) {
+fn prepared(table: &mut [u8], stocks: &mut [u8], at: usize, letter: u8, n: u32) {
     match letter {
         b'L' => {
             put(stocks, 0, b"ABD");
@@ -119,15 +129,13 @@ fn prepared(table: &mut [u8], stocks: &mut [u8], letter: u8, n: u32) {
         b'J' => {
             put(stocks, 8, b"X");
         }
-        b'T' => {
-            put(table, 0, &[9]);
+        b'v' => {
+            put(table, at, &[(n % 256) as u8]);
         }
         b'N' => {
             put(table, 16, &PAST_THE_LAST);
         }
-        b'P' => {
-            put(table, 3, &[(n % 256) as u8]);
-        }
+        b'o' => take_back(table),
         b'F' => {
             open(table, 1_000_000, n);
         }
@@ -140,7 +148,7 @@ fn prepared(table: &mut [u8], stocks: &mut [u8], letter: u8, n: u32) {
 
 fn prepares(letter: u8) -> bool {
     match letter {
-        b' ' | b'T' | b'N' | b'P' | b'F' | b'V' | b'L' | b'J' => true,
+        b' ' | b'v' | b'N' | b'o' | b'F' | b'V' | b'L' | b'J' => true,
         _ => false,
     }
 }
@@ -154,11 +162,14 @@ fn acted(
     n: u32,
 ) -> Run {
     if prepares(letter) {
-        prepared(table, stocks, letter, n);
+        prepared(table, stocks, run.byte, letter, n);
         return run;
     }
     if letter == b'g' {
         return emptied(ring, run);
+    }
+    if letter == b'i' {
+        return rebuilt(table, emptied(ring, run), n);
     }
     if sets(letter) {
         return set(run, letter, n);

@@ -1,4 +1,5 @@
 // What came of a script's last entry, in words that are taken from the answer, the ring's bytes and the table's.
+use crate::asked::asked;
 use crate::run::LONGEST;
 use crate::run::Run;
 use crate::text::letter;
@@ -184,6 +185,13 @@ fn blocked(table: &[u8], out: &mut [u8], from: usize) -> usize {
     put_number(out, at, bits as u64)
 }
 
+// What is said beside the orders: of the list's stock, of blocked firms, and of all orders where the script asks for that.
+fn beside(table: &[u8], stocks: &[u8], run: Run, out: &mut [u8], from: usize) -> usize {
+    let a = halted(stocks, out, from);
+    let b = blocked(table, out, a);
+    asked(table, run, out, b)
+}
+
 pub(crate) fn told(table: &[u8], ring: &[u8], stocks: &[u8], run: Run, out: &mut [u8]) -> usize {
     if run.last.answer != 0 {
         return refused(run, out);
@@ -196,7 +204,6 @@ pub(crate) fn told(table: &[u8], ring: &[u8], stocks: &[u8], run: Run, out: &mut
     let b = order(table, b'A', out, a);
     let c = intact(table, run, out, b);
     let d = order(table, b'B', out, c);
-    let e = halted(stocks, out, d);
-    let f = blocked(table, out, e);
-    behind(part(&sent, 0, before), out, f)
+    let e = beside(table, stocks, run, out, d);
+    behind(part(&sent, 0, before), out, e)
 }

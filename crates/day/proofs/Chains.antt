@@ -134,7 +134,7 @@ module _ (books : Books) (s : List ℕ) (ok : sound (books .table) ≡ true) (do
       speaking =
           moved used (faceAt t) (faceAt mid) told ledger at (toldExecuted (plan .notice)) there
           (sym (ap (λ (x : Face). x .state) is) ∙ live-state o (c .alive))
-          (λ i l apart. unchanged-face books s ok done i apart)
+          (λ i l apart. unchanged-face books s ok done i l apart)
           (ap (λ (x : Face). x .token) becomes ∙ c .token ∙ ap (λ (x : Face). x .token) is)
           (ap (λ (x : Face). x .previous) becomes ∙ c .previous ∙ ap (λ (x : Face). x .previous) is)
           (ap (λ (x : Face). x .executed) becomes ∙ c .executed ∙ ap (λ (x : Face). x .executed + toldExecuted (plan .notice)) is)

@@ -8,8 +8,8 @@ use header::settings::Settings;
 use table::fresh::fresh;
 use wire::shares::Total;
 
-// The table's bytes: a header of 64 and 800 records of 80.
-pub const TABLE_SIZE: usize = 64_064;
+// The table's bytes: a header of 64, 800 records of 80, and 100 of bits, one a record.
+pub const TABLE_SIZE: usize = 64_164;
 
 pub const RING_SIZE: usize = 4_096;
 

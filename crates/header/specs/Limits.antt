@@ -1,8 +1,17 @@
 -- The numbers of the header (Table and outbox, Header), each once.
 use Prim.Native.Nat.{ℕ}
 
+-- where the records begin
 abbrev pub headerSize : ℕ
 headerSize = 64
+
+-- the header's value ends here, and the sum of open shares follows: four bytes (Ask 6)
+abbrev pub sumPlace : ℕ
+sumPlace = 60
+
+-- byte 2, the form of the table; a fresh one has it too (Ask 6)
+abbrev pub tableForm : ℕ
+tableForm = 1
 
 abbrev pub dayBefore : ℕ
 dayBefore = 0

@@ -1,5 +1,5 @@
-// The table's header as a value: the day, what has happened in it, and the settings with their firms. Read from its 64 bytes, spelled as them, and
-// judged.
+// The table's header as a value: the day, what has happened in it, and the settings with their firms. Read from the 60 bytes of its value,
+// spelled as them, and judged.
 pub mod firms;
 pub mod settings;
 pub mod sound;
@@ -7,13 +7,19 @@ pub mod sound;
 ghost use mathlib.Core.Path.{_≡_};
 ghost use lib.ListN.{length};
 ghost use Rattle.octets.specs.Bytes.{put};
-ghost use Rattle.header.specs.Limits.{headerSize};
+ghost use Rattle.header.specs.Limits.{sumPlace};
 ghost use Rattle.header.specs.Header.{headerOf, headerBytes, isOpenDay};
 ghost use Rattle.header.specs.Runs.{moments, standing};
 use wire::shares::Total;
 
-// How many bytes a header has.
+// How many bytes stand before the records.
 pub const HEADER_SIZE: usize = 64;
+
+// The header's value ends here; the four bytes behind it are the sum of open shares, which belongs to the records.
+pub const SUM_PLACE: usize = 60;
+
+// The form of the table, in byte 2.
+pub const TABLE_FORM: u8 = 1;
 
 // The day: before it begins, open, and closed.
 pub const BEFORE: u8 = 0;
@@ -45,7 +51,7 @@ pub struct Header {
 }
 
 pub fn header_of(s: &[u8]) -> Header
-    requires { ⌜ length (now s) ≡ headerSize ⌝ }
+    requires { ⌜ length (now s) ≡ sumPlace ⌝ }
     ensures { λ r. ⌜ r ≡ headerOf (now (s .entry)) ⌝ }
 {
     let threshold = Total(octets::be32(s, 24));
@@ -64,32 +70,31 @@ pub fn header_of(s: &[u8]) -> Header
 
 // The bytes are written in two runs: what the steps of a day move, then what stands from the fresh call on but for the reference.
 fn put_moments(s: &mut [u8], h: Header)
-    requires { ⌜ length (now s) ≡ headerSize ⌝ }
+    requires { ⌜ length (now s) ≡ sumPlace ⌝ }
     ensures { λ _. ⌜ (now (s .exit) ≡ put (now (s .entry)) 0 (moments h)) × (length (moments h) ≡ 16) ⌝ }
 {
     octets::put_byte(s, 0, h.day);
     octets::put_byte(s, 1, h.count);
-    octets::put_byte(s, 2, 0);
+    octets::put_byte(s, 2, TABLE_FORM);
     octets::put_byte(s, 3, h.blocked);
     octets::put_be32(s, 4, h.used);
     octets::put_be64(s, 8, h.last);
 }
 
 fn put_standing(s: &mut [u8], h: Header)
-    requires { ⌜ length (now s) ≡ headerSize ⌝ }
-    ensures { λ _. ⌜ (now (s .exit) ≡ put (now (s .entry)) 16 (standing h)) × (length (standing h) ≡ 48) ⌝ }
+    requires { ⌜ length (now s) ≡ sumPlace ⌝ }
+    ensures { λ _. ⌜ (now (s .exit) ≡ put (now (s .entry)) 16 (standing h)) × (length (standing h) ≡ 44) ⌝ }
 {
     let firms = h.firms;
     octets::put_be64(s, 16, h.reference);
     octets::put_be32(s, 24, h.threshold.0);
     octets::put_bytes32(s, 28, firms);
-    octets::put_be32(s, 60, 0);
 }
 
-// The header's 64 bytes, over what is there.
+// The bytes of the header's value, over what is there.
 pub fn put_header(s: &mut [u8], h: Header)
-    requires { ⌜ length (now s) ≡ headerSize ⌝ }
-    ensures { λ _. ⌜ (now (s .exit) ≡ headerBytes h) × (length (headerBytes h) ≡ headerSize) ⌝ }
+    requires { ⌜ length (now s) ≡ sumPlace ⌝ }
+    ensures { λ _. ⌜ (now (s .exit) ≡ headerBytes h) × (length (headerBytes h) ≡ sumPlace) ⌝ }
 {
     put_moments(s, h);
     put_standing(s, h);

@@ -7,7 +7,7 @@ use rules::plan::Begins;
 use rules::plan::Plan;
 use stocks::set::set_state;
 use table::places::store_header;
-use table::places::store_order;
+use table::store::store_order;
 use tape::entry::StockState;
 ghost use mathlib.Core.Path.{_≡_};
 ghost use mathlib.Core.Bool.{true};

@@ -115,7 +115,7 @@ fn take(table: &mut [u8], ring: &mut [u8], marks: Marks, stocks: &mut [u8], entr
 
 // Where the order stands that the entry names, in w by a firm and a symbol; behind the used records for s h d n, which name none.
 fn named_place(table: &[u8], entry: &[u8]) -> usize
-    requires { ⌜ wellFormed (now entry) ≡ true ⌝ }
+    requires { ⌜ (sound (now table) ≡ true) × (wellFormed (now entry) ≡ true) ⌝ }
     ensures { λ r. ⌜ r ≡ namedPlace (now (table .entry)) (now (entry .entry)) ⌝ }
 {
     if names_order(entry) {

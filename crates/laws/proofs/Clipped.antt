@@ -2,7 +2,7 @@
 -- and judged without a look at the fields that nobody judges. Assumes nothing.
 use Rattle.octets.proofs.Proving.{List, List·getD-append, [], _%_, _++_, _+_, _-_, _/_, _<_, _^_, _∙_, _∷_, _≡_, _≤_, _⊎_, ap, arith, decLt, getD, getD-append-add, inl, inr, length, lit<, ltb, mod-lt, refl, subst, suc, sym, take, take-all, zero, ℕ}
 use Rattle.octets.specs.Choice.{pick}
-use Rattle.octets.specs.Bytes.{digits, numberOf, numberFrom, put}
+use Rattle.octets.specs.Bytes.{digits, numberOf, numberFrom}
 use Rattle.octets.proofs.Laws.{length-digits, number-digits, digits-number, number-bound}
 use Rattle.wire.specs.Letters.{live, dead}
 use Rattle.wire.specs.Shares.{total, removed}
@@ -10,7 +10,7 @@ use Rattle.orders.specs.Limits.{mostShares}
 use Rattle.orders.specs.Counts.{gone, newCounts}
 use Rattle.orders.specs.declared.counts.Counts.{Counts}
 use Rattle.orders.specs.Order.{orderOf, orderBytes, noOrder, rejectedOrder}
-use Rattle.table.specs.Table.{recordsIn, recordPlace, storeOrder}
+use Rattle.table.specs.Table.{recordsIn, storeRecord, storeOrder}
 use Rattle.orders.specs.Whole.{WholeOrder}
 use Rattle.orders.proofs.Standing.{Live, Dead, OrderGood}
 use Rattle.laws.proofs.Types.{Order}
@@ -102,7 +102,7 @@ bytes-clipped o = simp clip-digits
 
 pub stored-clipped : (t : List ℕ) (i : ℕ) (o : Order) → storeOrder t i (clipped o) ≡ storeOrder t i o
 unfolding storeOrder
-stored-clipped t i o = ap (λ (b : List ℕ). pick (ltb i (recordsIn t)) (put t (recordPlace i) b) t) (bytes-clipped o)
+stored-clipped t i o = ap (λ (b : List ℕ). pick (ltb i (recordsIn t)) (storeRecord t i b) t) (bytes-clipped o)
 
 -- every number fits
 pub whole-clipped : (o : Order) → Shaped o → WholeOrder (clipped o)

@@ -5,13 +5,13 @@ use Rattle.octets.specs.Bytes.{zeros, numberOf, numberFrom}
 use Rattle.octets.proofs.Laws.{length-part}
 use Rattle.wire.specs.Letters.{live, dead, rejectedToken}
 use Rattle.wire.proofs.NoneBad.{legalToken}
-use Rattle.header.specs.Limits.{headerSize}
+use Rattle.header.specs.Limits.{headerSize, sumPlace}
 use Rattle.header.specs.Header.{headerOf}
 use Rattle.orders.specs.Limits.{recordSize}
 use Rattle.orders.specs.Order.{orderOf, noOrder, isLive, isUsed}
 use Rattle.orders.proofs.Standing.{Live, Dead, Rejected, RecordGood}
 use Rattle.table.specs.Table.{HasRecord, recordBytes, recordPlace, headBytes, header, usedIn, orderAt, orderFrom}
-use Rattle.table.proofs.Soundness.{Sound}
+use Rattle.table.proofs.Soundness.{Sound, head-fits}
 use Rattle.table.proofs.Stored.{record-fits, head-there}
 use Rattle.laws.proofs.Types.{Order}
 use Rattle.laws.proofs.Shapes.{Shaped}
@@ -107,5 +107,7 @@ module _ (t : List ℕ) (ok : Sound t) where
         firms = length-part (headBytes t) 28 32 (omega (arith, length-head));
       }
     where
-      length-head : length (headBytes t) ≡ headerSize
-      length-head = ap length (head-there t (omega (arith, ok .size .long))) ∙ length-part t 0 headerSize (omega (arith, ok .size .long))
+      length-head : length (headBytes t) ≡ sumPlace
+      length-head =
+          let there = head-fits t (ok .size) in
+          ap length (head-there t there) ∙ length-part t 0 sumPlace (omega arith)

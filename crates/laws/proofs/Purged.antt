@@ -16,6 +16,7 @@ use Rattle.orders.specs.declared.wanted.Wanted.{Wanted}
 use Rattle.orders.specs.declared.wanted.By.{By}
 use Rattle.orders.specs.declared.wanted.By.the-variants.{Firm, Stock}
 use Rattle.orders.specs.declared.flags.Flag.the-variants.{Late}
+use Rattle.orders.proofs.Wanting.{wanted-live}
 use Rattle.table.specs.Table.{header, usedIn, recordBytes, orderAt, orderFrom, firstSuch, sound}
 use Rattle.table.proofs.Soundness.{of-sound}
 use Rattle.table.proofs.Finding.{such-found, such-none}
@@ -56,11 +57,7 @@ wanted-firm e o h =
     by Firm m = same-true (o .details .kept .firm) (e .firm) m
     by Stock m = same-true (o .details .kept .firm) (e .firm) (both has (same (o .details .kept .stock) (e .symbol)) m .0)
 
--- and is live
-wanted-live : (w : Wanted) (o : Order) → isWanted w o ≡ true → isLive o ≡ true
-unfolding isWanted
-wanted-live w o h = both (isLive o) _ h .0
-
+-- and what is dead is not
 dead-unwanted : (w : Wanted) (o : Order) → o .state ≡ dead → isWanted w o ≡ false
 unfolding isWanted isLive
 dead-unwanted w o end = rw end

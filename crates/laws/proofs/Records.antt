@@ -10,7 +10,9 @@ use Rattle.orders.specs.Counts.{gone, newCounts}
 use Rattle.orders.specs.Order.{orderOf, noOrder, rejectedOrder, isUsed}
 use Rattle.orders.proofs.Standing.{Live, Dead, OrderGood}
 use Rattle.table.specs.Table.{HasRecord, recordBytes, header, orderAt, sound, storeOrder}
-use Rattle.table.proofs.Stored.{order-read-back, other-records, header-read-back, records-stay}
+use Rattle.table.proofs.Soundness.{head-fits}
+use Rattle.table.proofs.Stored as Stored
+use Rattle.table.proofs.Stored.{order-read-back, others-stay, header-read-back, records-stay}
 use Rattle.tape.specs.Entries.{stampOf}
 use Rattle.host.specs.Step.{Books, oneIf, storeIf, headerAfter, committed, comesTo}
 use Rattle.laws.proofs.Types.{Decision, Plan, Order, Header}
@@ -18,7 +20,7 @@ use Rattle.laws.proofs.Shapes.{Changed, Change, unchanged, changed, cha
 use Rattle.laws.proofs.Standing.{standing-used}
 use Rattle.laws.proofs.Given.{from-is, live-there, none-unused}
 use Rattle.laws.proofs.Clipped.{clip-same, clipped, counts-stay, stored-clipped, whole-clipped}
-use Rattle.laws.proofs.Sounds.{Fit, S, P, p, o, place, one, two, kept₂, after, whole, changed-fit, added-fit, there-in-one, K}
+use Rattle.laws.proofs.Sounds.{Fit, S, P, p, o, place, one, two, kept₁, kept₂, after, whole, changed-fit, added-fit, there-in-one, K}
 
 -- what a chain is followed by, and what is counted
 pub record Face : Type 0 where
@@ -75,10 +77,10 @@ module _ (t : List ℕ) (i : ℕ) (o : Order) (there : HasRecord t i) (fit : Fit
       ∙ ap face (order-read-back t i (clipped o) there (whole-clipped o (fit .shaped)))
       ∙ face-clipped o (fit .good)
 
-  pub other-bytes : (j : ℕ) → j ≢ i → recordBytes (storeOrder t i o) j ≡ recordBytes t j
-  other-bytes j apart =
+  pub other-bytes : (j : ℕ) → HasRecord t j → j ≢ i → recordBytes (storeOrder t i o) j ≡ recordBytes t j
+  other-bytes j there′ apart =
       ap (λ (u : List ℕ). recordBytes u j) (sym (stored-clipped t i o))
-      ∙ other-records t i (clipped o) there (whole-clipped o (fit .shaped)) j apart
+      ∙ others-stay t i (clipped o) there (whole-clipped o (fit .shaped)) j there′ apart
 
 -- ---- a plan written down
 
@@ -112,7 +114,14 @@ module _ (books : Books) (s : List ℕ) (ok : sound (books .table) ≡ true) (do
   written = ap (λ (d : Decision). committed t at (stampOf s) (d .plan)) (P books s ok done .is)
 
   long : headerSize ≤ length end
-  long = omega (arith, kept₂ books s ok done .long, S books s ok done .size .long)
+  long = omega (arith, kept₂ books s ok done .long, head-fits t (S books s ok done .size))
+
+  -- a used record lies in the table, and still does after the first store
+  there : (i : ℕ) → i < used → HasRecord t i
+  there i l = omega (arith, l, S books s ok done .head .used)
+
+  there-still : (i : ℕ) → i < used → HasRecord mid i
+  there-still i l = subst (λ (n : ℕ). i < n) (sym (Stored.same-records t mid (kept₁ books s ok done .long))) (there i l)
 
   pub left-header : header left ≡ headerAfter (header t) (stampOf s) plan
   unfolding committed
@@ -133,23 +142,23 @@ module _ (books : Books) (s : List ℕ) (ok : sound (books .table) ≡ true) (do
       let f = changed-fit books s ok done (change-of (K books s ok done .1 .1 .shape)) u in
       rw u (stored-face t at (plan .changed) (f .1) (f .0))
 
-  unchanged-record : (i : ℕ) → i ≢ at → recordBytes mid i ≡ recordBytes t i
+  unchanged-record : (i : ℕ) → i < used → i ≢ at → recordBytes mid i ≡ recordBytes t i
   unfolding storeIf
-  unchanged-record i apart = by (isUsed (plan .changed)) refl
+  unchanged-record i l apart = by (isUsed (plan .changed)) refl
     where
       by : (b : Bool) → isUsed (plan .changed) ≡ b → recordBytes mid i ≡ recordBytes t i
       by true u =
           let f = changed-fit books s ok done (change-of (K books s ok done .1 .1 .shape)) u in
-          rw u (other-bytes t at (plan .changed) (f .1) (f .0) i apart)
+          rw u (other-bytes t at (plan .changed) (f .1) (f .0) i (there i l) apart)
       by false u = rw u
 
   unchanged-records : isUsed (plan .changed) ≡ false → (i : ℕ) → recordBytes mid i ≡ recordBytes t i
   unfolding storeIf
   unchanged-records u i = rw u
 
-  pub unchanged-face : (i : ℕ) → i ≢ at → faceAt mid i ≡ faceAt t i
+  pub unchanged-face : (i : ℕ) → i < used → i ≢ at → faceAt mid i ≡ faceAt t i
   unfolding orderAt
-  unchanged-face i apart = ap faceOf (unchanged-record i apart)
+  unchanged-face i l apart = ap faceOf (unchanged-record i l apart)
 
   pub unchanged-faces : isUsed (plan .changed) ≡ false → (i : ℕ) → faceAt mid i ≡ faceAt t i
   unfolding orderAt
@@ -168,7 +177,7 @@ module _ (books : Books) (s : List ℕ) (ok : sound (books .table) ≡ true) (do
   earlier-record i l = left-bytes i ∙ by (isUsed (plan .added)) refl
     where
       by : (b : Bool) → isUsed (plan .added) ≡ b → recordBytes end i ≡ recordBytes mid i
-      by true u = rw u (other-bytes mid used (plan .added) (there-in-one books s ok done u) (fit u) i (λ e. omega (arith, e)))
+      by true u = rw u (other-bytes mid used (plan .added) (there-in-one books s ok done u) (fit u) i (there-still i l) (λ e. omega (arith, e)))
       by false u = rw u
 
   pub earlier-face : (i : ℕ) → i < used → faceAt left i ≡ faceAt mid i
@@ -177,7 +186,7 @@ module _ (books : Books) (s : List ℕ) (ok : sound (books .table) ≡ true) (do
 
   -- every byte of another record is as it was, and where no order changes, of every record
   pub other-record : (i : ℕ) → i < used → i ≢ at → recordBytes left i ≡ recordBytes t i
-  other-record i l apart = earlier-record i l ∙ unchanged-record i apart
+  other-record i l apart = earlier-record i l ∙ unchanged-record i l apart
 
   pub same-records : plan .changed ≡ noOrder → (i : ℕ) → i < used → recordBytes left i ≡ recordBytes t i
   same-records e i l = earlier-record i l ∙ unchanged-records (ap isUsed e ∙ none-unused) i
@@ -194,5 +203,5 @@ module _ (books : Books) (s : List ℕ) (ok : sound (books .table) ≡ true) (do
             rw e
             (subst (R (faceAt t at)) (sym (changed-face (standing-used _ (c .standing))))
             (subst (λ (q : Order). R (face q) (face (plan .changed))) (from-is t at (live-there t at (c .alive))) (moved c)))
-        | no e ↦ subst (R (faceAt t i)) (sym (unchanged-face i e)) (same (faceAt t i))
+        | no e ↦ subst (R (faceAt t i)) (sym (unchanged-face i l e)) (same (faceAt t i))
       ]

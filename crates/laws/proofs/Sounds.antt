@@ -14,9 +14,11 @@ use Rattle.orders.specs.Order.{orderOf, rejectedOrder, isUsed}
 use Rattle.orders.specs.Sound.{recordSound}
 use Rattle.orders.proofs.Standing.{Live, Dead, Rejected, OrderGood, RecordGood, to-record}
 use Rattle.table.specs.Table.{HasRecord, recordsIn, recordBytes, header, orderAt, sound, storeOrder}
-use Rattle.table.proofs.Soundness.{Sound, of-sound}
-use Rattle.table.proofs.Stored.{order-length, header-stays}
-use Rattle.table.proofs.Keeps.{order-keeps, records-after, same-records, same-size, header-keeps}
+use Rattle.table.specs.Limits.{mostRecords}
+use Rattle.table.proofs.Soundness.{Sound, same-size, of-sound}
+use Rattle.table.proofs.Stored.{same-records, order-length, order-header}
+use Rattle.table.proofs.Agreeing.{Agree, Grows}
+use Rattle.table.proofs.Keeps.{records-after, agrees-after, order-keeps, header-keeps}
 use Rattle.tape.specs.Entries.{stampOf}
 use Rattle.host.specs.Step.{Books, oneIf, namedPlace, storeIf, dayAfter, blockedAfter, headerAfter, committed, noRecordFree, noReferenceLeft, decide, comesTo}
 use Rattle.laws.specs.Records.{Paper, EveryRecord}
@@ -39,17 +41,24 @@ module _ (t : List ℕ) (i : ℕ) (o : Order) (there : HasRecord t i) (fit : Fit
   stored-length = ap length (sym (stored-clipped t i o)) ∙ order-length t i (clipped o) there (whole-clipped o (fit .shaped))
 
   pub stored-header : header (storeOrder t i o) ≡ header t
-  stored-header = ap header (sym (stored-clipped t i o)) ∙ header-stays t i (clipped o) there (whole-clipped o (fit .shaped))
+  stored-header = ap header (sym (stored-clipped t i o)) ∙ order-header t i (clipped o) there (whole-clipped o (fit .shaped))
 
-  pub stored-sound : sound t ≡ true → sound (storeOrder t i o) ≡ true
-  stored-sound ok =
-      ap sound (sym (stored-clipped t i o)) ∙ order-keeps t i (clipped o) there (whole-clipped o (fit .shaped)) (good-clipped o (fit .good)) ok
+  pub stored-sound : i < header t .used → sound t ≡ true → sound (storeOrder t i o) ≡ true
+  stored-sound used ok =
+      ap sound (sym (stored-clipped t i o)) ∙ order-keeps t i (clipped o) there (whole-clipped o (fit .shaped)) (good-clipped o (fit .good)) used ok
 
-  pub stored-records : (n : ℕ) → ((j : ℕ) → j < n → j ≢ i → recordSound (recordBytes t j) ≡ true)
+  pub stored-records : (n : ℕ) → n ≤ recordsIn t → ((j : ℕ) → j < n → j ≢ i → recordSound (recordBytes t j) ≡ true)
       → (j : ℕ) → j < n → recordSound (recordBytes (storeOrder t i o) j) ≡ true
-  stored-records n others j l =
+  stored-records n within others j l =
       ap (λ (u : List ℕ). recordSound (recordBytes u j)) (sym (stored-clipped t i o))
-      ∙ records-after t i (clipped o) there (whole-clipped o (fit .shaped)) (good-clipped o (fit .good)) n others j l
+      ∙ records-after t i (clipped o) there (whole-clipped o (fit .shaped)) (good-clipped o (fit .good)) n within others j l
+
+  pub stored-agrees : (n m : ℕ) → Grows n i m → n ≤ recordsIn t → m ≤ mostRecords → ((j : ℕ) → j < m → recordSound (recordBytes (storeOrder t i o) j) ≡ true)
+      → Agree t n → Agree (storeOrder t i o) m
+  stored-agrees n m grows within most sounds a =
+      subst (λ (u : List ℕ). Agree u m) (stored-clipped t i o)
+      (agrees-after t i (clipped o) there (whole-clipped o (fit .shaped)) (good-clipped o (fit .good)) n m grows within most
+      (λ j l. ap (λ (u : List ℕ). recordSound (recordBytes u j)) (stored-clipped t i o) ∙ sounds j l) a)
 
 -- ---- the orders of a plan
 
@@ -94,7 +103,7 @@ module _ (books : Books) (s : List ℕ) (ok : sound (books .table) ≡ true) (do
   pub K : Kept t o (decide books s)
   K = decide-keeps books s S (P .legal)
 
-  pub changed-fit : Change o (p .notice) (p .changed) → isUsed (p .changed) ≡ true → Fit (p .changed) × HasRecord t place
+  pub changed-fit : Change o (p .notice) (p .changed) → isUsed (p .changed) ≡ true → Fit (p .changed) × HasRecord t place × (place < header t .used)
   changed-fit (unchanged e) u = absurd (false≢true (sym none-unused ∙ ap isUsed (sym e) ∙ u))
   changed-fit (changed c) u = (
     record {
@@ -102,6 +111,7 @@ module _ (books : Books) (s : List ℕ) (ok : sound (books .table) ≡ true) (do
       good = standing-good (p .changed) (c .standing) (ap legalToken (c .token) ∙ token-legal t S place (c .alive));
     },
     used-there t S place (live-there t place (c .alive)),
+    omega (arith, live-there t place (c .alive), S .used),
   )
 
   -- after the named order
@@ -123,7 +133,7 @@ module _ (books : Books) (s : List ℕ) (ok : sound (books .table) ≡ true) (do
           record {
             long = rw u (stored-length t place (p .changed) (f .1) (f .0));
             head = rw u (stored-header t place (p .changed) (f .1) (f .0));
-            good = rw u (stored-sound t place (p .changed) (f .1) (f .0) ok);
+            good = rw u (stored-sound t place (p .changed) (f .1) (f .0) (f .2) ok);
           }
       by false u = record { long = rw u; head = rw u; good = rw u ok }
 
@@ -150,6 +160,7 @@ module _ (books : Books) (s : List ℕ) (ok : sound (books .table) ≡ true) (do
   pub record Kept₂ : Type 0 where
     pub long : length two ≡ length t
     pub records : (j : ℕ) → j < h .used + oneIf (isUsed (p .added)) → recordSound (recordBytes two j) ≡ true
+    pub agrees : Agree two (h .used + oneIf (isUsed (p .added)))
 
   pub there-in-one : isUsed (p .added) ≡ true → HasRecord one (h .used)
   there-in-one u = subst (λ (n : ℕ). h .used < n) (sym (same-records t one (kept₁ .long))) (free-there u)
@@ -162,14 +173,23 @@ module _ (books : Books) (s : List ℕ) (ok : sound (books .table) ≡ true) (do
       one-records j l =
           to-record (recordBytes one j) (of-sound one (kept₁ .good) .records j (subst (λ (q : Header). j < q .used) (sym (kept₁ .head)) l))
 
+      one-agrees : Agree one (h .used)
+      one-agrees = subst (λ (q : Header). Agree one (q .used)) (kept₁ .head) (of-sound one (kept₁ .good) .kept)
+
       by : (b : Bool) → isUsed (p .added) ≡ b → Kept₂
       by true u =
           let f = added-fit (p .added) (K .1 .0) (addition-of (K .1 .1 .shape)) u in
+          let there = there-in-one u in
+          let records = stored-records one (h .used) (p .added) there f (h .used + 1) (omega (arith, there)) (λ j l n. one-records j (omega (arith, n))) in
+          let most : h .used + 1 ≤ mostRecords = omega (arith, free-there u, S .size .most) in
           record {
-            long = rw u (stored-length one (h .used) (p .added) (there-in-one u) f ∙ kept₁ .long);
-            records = rw u (stored-records one (h .used) (p .added) (there-in-one u) f (h .used + 1) (λ j l n. one-records j (omega (arith, n))));
+            long = rw u (stored-length one (h .used) (p .added) there f ∙ kept₁ .long);
+            records = rw u records;
+            agrees = rw u (stored-agrees one (h .used) (p .added) there f (h .used) (h .used + 1) (inr (refl, refl)) (omega (arith, there)) most records one-agrees);
           }
-      by false u = record { long = rw u (kept₁ .long); records = rw u (λ j l. one-records j (omega arith)) }
+      by false u =
+          let same : h .used ≡ h .used + 0 = omega arith in
+          record { long = rw u (kept₁ .long); records = rw u (λ j l. one-records j (omega arith)); agrees = rw u (subst (Agree one) same one-agrees) }
 
   -- the header after it
   abbrev pub after : Header
@@ -248,7 +268,7 @@ module _ (books : Books) (s : List ℕ) (ok : sound (books .table) ≡ true) (do
   unfolding committed headerAfter
   written-sound =
       let long = kept₂ .long in
-      header-keeps after whole two (same-size t two long (S .size)) (rw (same-records t two long) good) (kept₂ .records)
+      header-keeps after whole two (same-size t two long (S .size)) (rw (same-records t two long) good) (kept₂ .records) (kept₂ .agrees)
 
   pub keeps : sound (committed t place (stampOf s) (comesTo books s .plan)) ≡ true
   keeps = ap (λ (d : Decision). sound (committed t place (stampOf s) (d .plan))) (P .is) ∙ written-sound

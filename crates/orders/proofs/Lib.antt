@@ -4,4 +4,5 @@ pub mod Runs
 pub mod Judged
 pub mod Spelled
 pub mod Standing
+pub mod Wanting
 pub mod Unique

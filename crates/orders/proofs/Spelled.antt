@@ -1,8 +1,8 @@
 -- An order and its bytes, there and back: an order that is spelled and read again is the same, and so are bytes that are read and spelled again.
 -- Both are citations of the laws of layouts. Assumes nothing.
-use Rattle.octets.proofs.Proving.{List, [], _∷_, _≡_, ap, arith, length, refl, true, ℕ}
+use Rattle.octets.proofs.Proving.{List, [], _≡_, ap, arith, length, refl, true, ℕ}
 use Rattle.wire.specs.Legal.{Bytes}
-use Rattle.wire.specs.Layout.{Field, free, Values, Fits, atOnce, badPlace, firstBadPlace, unbroken, gapsAreZero}
+use Rattle.wire.specs.Layout.{Values, Fits, atOnce, unbroken}
 use Rattle.wire.proofs.Layouts.{sized-all, length-fields, fields-again, spelled-again}
 use Rattle.orders.specs.Limits.{recordSize}
 use Rattle.orders.specs.Order.{Order, recordLayout, orderFields, orderOf, orderBytes}
@@ -43,12 +43,7 @@ module _ (o : Order) (w : WholeOrder o) where
 
 -- ---- bytes
 
--- the same fields, of which nothing is judged: what is read and spelled does not depend on it
-unjudged : List Field → List Field
-unjudged [] = []
-unjudged (f ∷ fs) = record { at = f .at; width = f .width; form = f .form; rule = free } ∷ unjudged fs
-
 module _ (s : List ℕ) (bytes : Bytes s) where
   pub record-again : length s ≡ recordSize → orderBytes (orderOf s) ≡ s
-  unfolding orderOf orderBytes unbroken gapsAreZero firstBadPlace badPlace unjudged
-  record-again e = spelled-again (unjudged recordLayout) 0 recordSize s refl refl refl e bytes
+  unfolding orderOf orderBytes
+  record-again e = spelled-again recordLayout 0 recordSize s record-unbroken e bytes

@@ -1,5 +1,5 @@
 -- What a sound record is, sentence by sentence of the paper, and back; and which orders are spelled as sound records. Assumes nothing.
-use Rattle.octets.proofs.Proving.{Bool, List, _&&_, _+_, _<_, _∙_, _≡_, _≤_, _⊎_, ap, drop, drop-at, eq-eqb, eqb, eqb-true, false, false≢true, inl, inr, le-leb, leb, leb-true, length, lt-ltb, ltb, ltb-true, refl, subst, sym, true, ℕ}
+use Rattle.octets.proofs.Proving.{Bool, List, _&&_, _+_, _<_, _∙_, _≡_, _≤_, _⊎_, ap, arith, drop, drop-at, eq-eqb, eqb, eqb-true, false, false≢true, inl, inr, le-leb, leb, leb-true, length, lt-ltb, ltb, ltb-true, refl, subst, sym, true, ℕ}
 use Rattle.octets.specs.Bytes.{allAre, digits, numberOf, numberFrom}
 use Rattle.octets.proofs.Below.{both}
 use Rattle.octets.specs.Choice.{_⇒_⨾_}
@@ -8,8 +8,8 @@ use Rattle.wire.specs.Limits.{tokenSize}
 use Rattle.wire.specs.Layout.{noBadPlace}
 use Rattle.wire.proofs.NoneBad.{legalToken}
 use Rattle.orders.specs.Limits.{mostShares}
-use Rattle.orders.specs.Counts.{gone, newCounts}
-use Rattle.orders.specs.Order.{Order, recordLayout, orderOf, orderBytes, noOrder, rejectedOrder}
+use Rattle.orders.specs.Counts.{gone, openShares, newCounts}
+use Rattle.orders.specs.Order.{Order, recordLayout, orderOf, orderBytes, noOrder, isLive, openOf, rejectedOrder}
 use Rattle.orders.specs.Sound.{liableGood, stateSound, recordSound}
 use Rattle.orders.specs.Whole.{WholeOrder}
 use Rattle.orders.proofs.Judged.{record-token}
@@ -65,6 +65,16 @@ of-record s e =
 pub to-record : (s : List ℕ) → RecordGood s → recordSound s ≡ true
 unfolding recordSound
 to-record s g = rw (record-token s ∙ g .token) (to-state s (orderOf s) (g .standing))
+
+-- of which no more is open than an order may have
+pub open-most : (s : List ℕ) → RecordGood s → openOf (orderOf s) .0 ≤ mostShares
+unfolding openOf isLive openShares
+open-most s g = by (g .standing)
+  where
+    by : Live (orderOf s) ⊎ (Dead (orderOf s) ⊎ Rejected s (orderOf s)) → openOf (orderOf s) .0 ≤ mostShares
+    by (inl l) = rw (l .0) (omega (arith, l .2))
+    by (inr (inl d)) = rw (d .0) (omega arith)
+    by (inr (inr r)) = rw (r .0) (omega arith)
 
 -- ---- orders
 

@@ -26,3 +26,6 @@ sound-unique κs a = settled
 
 pub wanted-unique : Settled orders.wanted.is_wanted.Reads.Post
 wanted-unique κs a = settled
+
+pub live-unique : Settled orders.live.lives.Reads.Post and Settled orders.live.open_in.Reads.Post
+live-unique = (λ κs a. settled) also (λ κs a. settled)

@@ -10,6 +10,7 @@ use Rattle.orders.specs.Limits.{recordSize}
 use Rattle.octets.specs.Bytes.{zeros}
 use Rattle.wire.specs.Layout.{Field, tokenAt, letterAt, wholeAt, textAt, FromFields, reading, laid}
 use Rattle.wire.specs.Shares.{total, removed}
+use Rattle.wire.specs.declared.shares.Removed.{Removed}
 use Rattle.orders.specs.Counts.{Counts, openShares, cut, newCounts}
 use Rattle.orders.specs.Flags.{Flag, hasFlag, setFlag, clearFlag}
 pub use Rattle.orders.specs.declared.order.Kept.{Kept}
@@ -81,6 +82,10 @@ noOrder = orderOf (zeros recordSize)
 
 unfoldable pub isLive : Order → Bool
 isLive o = eqb (o .state) live
+
+-- what the table counts of it as open: nothing, unless it is live (Ask 6)
+unfoldable pub openOf : Order → Removed
+openOf o = pick (isLive o) (openShares (o .shares)) (removed 0)
 
 unfoldable pub isUsed : Order → Bool
 isUsed o = not (eqb (o .state) 0)

@@ -1,5 +1,6 @@
 // Which live orders an entry is about that names no token. A table is searched for the first of them, so the test is made on a record's bytes.
 ghost use mathlib.Core.Path.{_≡_};
+ghost use mathlib.Core.Bool.{_&&_};
 ghost use lib.ListN.{length};
 ghost use Rattle.octets.specs.Bytes.{same};
 ghost use Rattle.orders.specs.Limits.{recordSize};
@@ -7,6 +8,7 @@ ghost use Rattle.orders.specs.Order.{orderOf};
 ghost use Rattle.orders.specs.Wanted.{meetsBy, isWanted};
 use crate::flags::Flag;
 use crate::flags::has_flag;
+use crate::live::lives;
 use octets::byte_at;
 use octets::same_at;
 
@@ -37,6 +39,17 @@ fn has_stock(r: &[u8], symbol: [u8; 8]) -> bool
     same_at(r, 28, &symbol)
 }
 
+// Most orders that are passed over are another firm's, so that is asked first.
+fn has_both(r: &[u8], firm: [u8; 4], symbol: [u8; 8]) -> bool
+    requires { ⌜ length (now r) ≡ recordSize ⌝ }
+    ensures { λ b. ⌜ b ≡ (same (orderOf (now (r .entry)) .details .kept .firm) firm && same (orderOf (now (r .entry)) .details .kept .stock) symbol) ⌝ }
+{
+    if has_firm(r, firm) {
+        return has_stock(r, symbol);
+    }
+    false
+}
+
 fn meets(r: &[u8], wanted: Wanted) -> bool
     requires { ⌜ length (now r) ≡ recordSize ⌝ }
     ensures { λ b. ⌜ b ≡ meetsBy (wanted .by) wanted (orderOf (now (r .entry))) ⌝ }
@@ -46,7 +59,7 @@ fn meets(r: &[u8], wanted: Wanted) -> bool
     let symbol = wanted.symbol;
     match by {
         By::Firm => has_firm(r, firm),
-        By::Stock => has_firm(r, firm) & has_stock(r, symbol),
+        By::Stock => has_both(r, firm, symbol),
     }
 }
 
@@ -55,7 +68,7 @@ pub fn is_wanted(r: &[u8], wanted: Wanted) -> bool
     requires { ⌜ length (now r) ≡ recordSize ⌝ }
     ensures { λ b. ⌜ b ≡ isWanted wanted (orderOf (now (r .entry))) ⌝ }
 {
-    if byte_at(r, 0) == b'L' {
+    if lives(r) {
         return !has_flag(byte_at(r, 64), Flag::Late) & meets(r, wanted);
     }
     false

@@ -10,6 +10,14 @@ use Rattle.port.proofs as port
 pub fresh-unique : SettledBoth port.pq_fresh.Reads.Post
 fresh-unique κs a = settled-both
 
+pub convert-unique : (κs : Lfts 2) (a : _) → Settles {X = ℕ × List ℕ} (port.pq_convert.Reads.Post κs a) (λ z e. (z, now (e .1 .0)))
+convert-unique κs a z z′ e e′ p p′ = one-pair p p′
+
+-- the number, and the two behind their pointers
+pub status-unique : (κs : Lfts 3) (a : _) → Settles {X = (ℕ × ℕ) × ℕ} (port.pq_status.Reads.Post κs a) (λ z e. ((z, now (e .1 .0)), now (e .1 .1 .0)))
+status-unique κs a z z′ e e′ p p′ =
+    ap₂ (λ (l : ℕ × ℕ) (r : ℕ). (l, r)) (one-pair (p .numbered, p .lives) (p′ .numbered, p′ .lives)) (one-result (p .opens) (p′ .opens))
+
 -- the number and the table, the ring and the marks behind two pointers, the place behind the last, and the list
 pub step-unique : (κs : Lfts 7) (a : _) → Settles {X = ((ℕ × List ℕ) × (List ℕ × Marks)) × (ℕ × List ℕ)} (port.pq_step.Reads.Post κs a) (λ z e. (((z, now (e .0)), (now (e .1 .0), marks (now (e .1 .1 .0)) (now (e .1 .1 .1 .0)))), (now (e .1 .1 .1 .1 .1 .1 .0), now (e .1 .1 .1 .1 .0))))
 step-unique κs a z z′ e e′ p p′ =

@@ -10,6 +10,7 @@ use Rattle.header.specs.Limits.{firmSize, mostFirms}
 use Rattle.header.specs.declared.settings.Firm.{Firm}
 use Rattle.header.specs.declared.settings.Settings.{Settings}
 use Rattle.host.specs.Step.{Outcome}
+use Rattle.table.specs.declared.status.Tally.{Tally}
 use Rattle.octets.specs.Bytes.{part, zeros}
 use Rattle.octets.specs.Choice.{pick}
 use Rattle.outbox.specs.declared.marks.Marks.{Marks}
@@ -50,3 +51,9 @@ pub record Left (o : Outcome) (number place : ℕ) (table ring : List ℕ) (afte
   pub ringed : ring ≡ o .world .ring
   pub marked : after ≡ o .world .marks
   pub listed : stocks ≡ o .world .books .stocks
+
+-- what the status call leaves him with (Ask 6): the number of the answer, and two numbers behind pointers
+pub record Stated (t : Tally) (number live shares : ℕ) : Type 0 where
+  pub numbered : number ≡ answerNumber (t .answer)
+  pub lives : live ≡ t .live
+  pub opens : shares ≡ t .shares

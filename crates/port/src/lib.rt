@@ -1,10 +1,11 @@
-// The door for C: eight functions, six of them over lent memory. Each hands its arguments to a proved function and an answer's number back, and asks
+// The door for C: ten functions, eight of them over lent memory. Each hands its arguments to a proved function and an answer's number back, and asks
 // nothing that a C caller could break but that its pointers and lengths are true. Where bytes are judged, the place that the answer tells is written
 // by every call.
 mod settings;
 
 use crate::settings::settings_given;
 use answers::number;
+use convert::convert;
 use echo::echo;
 use host::step::step;
 use outbox::marks::Marks;
@@ -12,6 +13,7 @@ use outbox::read::read;
 use outbox::release::release;
 use stamping::stamped;
 use table::fresh::fresh;
+use table::status::status;
 use tape::kinds::entry_length;
 use wire::messages::message_length;
 ghost use mathlib.Core.Path.{_≡_};
@@ -20,13 +22,15 @@ ghost use lib.Dec.{eqb};
 ghost use lib.ListN.{length};
 ghost use Rattle.answers.specs.Answer.{answerNumber, answerPlace};
 ghost use Rattle.table.specs.Fresh.{freshAnswer, freshTable};
+ghost use Rattle.table.specs.Status.{status};
+ghost use Rattle.convert.specs.Convert.{convertAnswer, converted};
 ghost use Rattle.outbox.specs.Outbox.{readRun, releaseAnswer, releaseMarks};
 ghost use Rattle.echo.specs.Echo.{messageAnswer, messageEchoed};
 ghost use Rattle.host.specs.Step.{step, world};
 ghost use Rattle.stamping.specs.Stamping.{stampAnswer, stampAfter};
 ghost use Rattle.tape.specs.Kinds.{entryLength};
 ghost use Rattle.wire.specs.Messages.{messageLength};
-ghost use Rattle.port.specs.Door.{marks, settingsGiven, Left};
+ghost use Rattle.port.specs.Door.{marks, settingsGiven, Left, Stated};
 
 // A fresh table from threshold and firms, 4 bytes each, one after the other.
 #[no_mangle]
@@ -65,6 +69,27 @@ pub extern "C" fn pq_step(
     let answer = stepped.answer;
     *place = answers::place(answer);
     number(answer)
+}
+
+// How many orders are live, and how many shares are open of them, as the table says; both are written by every call.
+#[no_mangle]
+pub extern "C" fn pq_status(table: &[u8], live: &mut usize, shares: &mut usize) -> u8
+    ensures { λ r. ⌜ Stated (status (now (table .entry))) r (now (live .exit)) (now (shares .exit)) ⌝ }
+{
+    let told = status(table);
+    *live = told.live;
+    *shares = told.shares;
+    let answer = told.answer;
+    number(answer)
+}
+
+// An old table rebuilt as one of today.
+#[no_mangle]
+pub extern "C" fn pq_convert(old: &[u8], table: &mut [u8]) -> u8
+    ensures { λ r. ⌜ (r ≡ answerNumber (convertAnswer (now (old .entry)) (length (now (table .entry))))) × (now (table .exit) ≡ converted (now (old .entry)) (now (table .entry))) ⌝ }
+{
+    let rebuilt = convert(old, table);
+    number(rebuilt)
 }
 
 // How many bytes there are to read at the read place.

@@ -23,7 +23,6 @@ use feed::next;
 use feed::over;
 use feed::piece;
 use feed::pieces::Pieces;
-use header::HEADER_SIZE;
 use host::step::step;
 use libc::STDERR_FILENO;
 use libc::STDOUT_FILENO;
@@ -31,7 +30,6 @@ use listing::lines::FIRST_LINE;
 use listing::lines::last_line;
 use listing::lines::line;
 use listing::lines::type_shown;
-use orders::record::RECORD_SIZE;
 use outbox::marks::LONGEST_RING;
 use outbox::marks::Marks;
 use outbox::read::read;
@@ -39,6 +37,7 @@ use outbox::release::release;
 use std::num::wrapping_add_u64;
 use words::REFUSAL;
 use words::Words;
+use words::table_length;
 use words::typed;
 
 // The answer to an entry whose message has no room.
@@ -227,7 +226,7 @@ fn finish(size: usize, tally: Tally, reader: Reader)
 fn play_with(table: &mut [u8], ring: &mut [u8], tape: &mut [u8], words: Words, draws: bool)
     requires { ⌜ Allowed words × Roomy (now table) (now ring) ⌝ }
 {
-    let size = HEADER_SIZE + RECORD_SIZE * words.records;
+    let size = table_length(words);
     let length = words.ring;
     let reader = Reader {
         takes: words.release,

@@ -1,12 +1,15 @@
-// Five functions behind a C door of their own, for the benchmark to weigh by themselves: a step does all of this and more, and the host's door
+// Six functions behind a C door of their own, for the benchmark to weigh by themselves: a step does all of this and more, and the host's door
 // calls none of them.
 use answers::number;
+use orders::wanted::By;
+use orders::wanted::Wanted;
 use outbox::marks::Marks;
 use outbox::put::put;
 use stocks::find::standing;
 use stocks::judge::list_good;
 use stocks::standing::Standing;
 use table::find::find;
+use table::search::find_wanted;
 use table::sound::sound;
 ghost use mathlib.Core.Path.{_≡_};
 ghost use mathlib.Core.Bool.{true};
@@ -15,9 +18,10 @@ ghost use Rattle.answers.specs.Answer.{answerNumber};
 ghost use Rattle.outbox.specs.Outbox.{putMoved, putRing};
 ghost use Rattle.stocks.specs.Limits.{symbolSize};
 ghost use Rattle.stocks.specs.Stocks.{listGood, standingIn};
-ghost use Rattle.table.specs.Table.{sound, placeOf};
+ghost use Rattle.orders.specs.Wanted.{isWanted};
+ghost use Rattle.table.specs.Table.{sound, placeOf, firstMarked};
 ghost use Rattle.octets.specs.Choice.{pick};
-ghost use Rattle.scales.specs.Numbers.{marks, standingNumber};
+ghost use Rattle.scales.specs.Numbers.{marks, standingNumber, wantedGiven};
 
 // 1 for a sound table, and 0.
 #[no_mangle]
@@ -33,6 +37,39 @@ pub extern "C" fn pq_find(table: &[u8], token: &[u8; 14]) -> usize
     ensures { λ r. ⌜ r ≡ placeOf (now (table .entry)) (now (token .entry)) ⌝ }
 {
     find(table, *token)
+}
+
+// The place of the first live order of the firm that isn't late, by the bits; of those in this stock alone, where `stocked` is not 0. The number of
+// used records where there is none.
+#[no_mangle]
+pub extern "C" fn pq_find_wanted(
+    table: &[u8],
+    firm: &[u8; 4],
+    symbol: &[u8; 8],
+    stocked: u8,
+) -> usize
+    ensures { λ r. ⌜ r ≡ firstMarked (now (table .entry)) (isWanted (wantedGiven (now (firm .entry)) (now (symbol .entry)) stocked)) ⌝ }
+{
+    let firm = *firm;
+    let symbol = *symbol;
+    if stocked == 0 {
+        return find_wanted(
+            table,
+            Wanted {
+                by: By::Firm,
+                firm,
+                symbol,
+            },
+        );
+    }
+    find_wanted(
+        table,
+        Wanted {
+            by: By::Stock,
+            firm,
+            symbol,
+        },
+    )
 }
 
 // A message behind the held bytes; the caller counts them.

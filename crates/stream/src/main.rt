@@ -16,17 +16,16 @@ use feed::next;
 use feed::over;
 use feed::piece;
 use feed::pieces::Pieces;
-use header::HEADER_SIZE;
 use host::step::step;
 use libc::STDERR_FILENO;
 use libc::STDOUT_FILENO;
-use orders::record::RECORD_SIZE;
 use outbox::marks::LONGEST_RING;
 use outbox::marks::Marks;
 use outbox::read::read;
 use outbox::release::release;
 use words::REFUSAL;
 use words::Words;
+use words::table_length;
 use words::typed;
 
 // The answer to an entry whose message has no room.
@@ -190,7 +189,7 @@ fn finish(ring: &[u8], run: Run) {
 fn play_with(table: &mut [u8], ring: &mut [u8], tape: &mut [u8], words: Words)
     requires { ⌜ Allowed words × Roomy (now table) (now ring) ⌝ }
 {
-    let size = HEADER_SIZE + RECORD_SIZE * words.records;
+    let size = table_length(words);
     let length = words.ring;
     play_day(
         &mut table[0..size],

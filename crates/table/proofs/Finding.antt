@@ -1,11 +1,14 @@
 -- The laws of the two searches: a token means its first used record, whatever order the code compares in, and the first order such that a test
--- holds is such a one, with none before it. Assumes nothing.
-use Rattle.octets.proofs.Proving.{Bool, List, _<_, _∙_, _≡_, _≤_, ap, false, false≢true, sym, true, ℕ}
+-- holds is such a one, with none before it, whether every record is looked at or those whose bits are set. Assumes nothing.
+use Rattle.octets.proofs.Proving.{Bool, List, _&&_, _<_, _∙_, _≡_, _≤_, ap, and-false, arith, false, false≢true, lt-ltb, refl, sym, true, ℕ}
 use Rattle.octets.specs.Bytes.{same}
 use Rattle.octets.proofs.Below.{same-true, same-self}
 use Rattle.octets.proofs.First.{First, first-is, first-none}
+use Rattle.orders.specs.Order.{isLive}
 use Rattle.orders.specs.declared.order.Order.{Order}
-use Rattle.table.specs.Table.{usedIn, orderAt, hasToken, placeOf, firstSuch}
+use Rattle.table.specs.Table.{header, usedIn, orderAt, hasToken, placeOf, isMarked, firstSuch, firstMarked, sound}
+use Rattle.table.proofs.Eight.{first-alike}
+use Rattle.table.proofs.Soundness.{Sound, of-sound}
 
 -- record i is used and has the token, and none before it has
 pub record FirstWith (t token : List ℕ) (i : ℕ) : Type 0 where
@@ -40,3 +43,15 @@ module _ (t : List ℕ) (test : Order → Bool) where
   pub such-none : usedIn t ≤ firstSuch t test → (j : ℕ) → j < usedIn t → test (orderAt t j) ≡ false
   unfolding firstSuch
   such-none = first-none (λ i. test (orderAt t i)) (usedIn t)
+
+-- a test that holds of live orders alone: in a sound table the bits lead to the same record as looking at every one
+pub by-the-bits : (t : List ℕ) → sound t ≡ true → (test : Order → Bool) → ((o : Order) → test o ≡ true → isLive o ≡ true) → firstMarked t test ≡ firstSuch t test
+unfolding firstMarked firstSuch
+by-the-bits t ok test alive = first-alike _ _ (usedIn t) (λ j l. by j l (test (orderAt t j)) refl)
+  where
+    s : Sound t
+    s = of-sound t ok
+
+    by : (j : ℕ) → j < usedIn t → (b : Bool) → test (orderAt t j) ≡ b → (isMarked t j && test (orderAt t j)) ≡ test (orderAt t j)
+    by j l true e = rw (s .kept .bits j, lt-ltb j (header t .used) (omega (arith, l, s .used)), alive (orderAt t j) e)
+    by j l false e = rw e (and-false (isMarked t j))

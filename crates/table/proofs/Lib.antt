@@ -1,8 +1,13 @@
 pub mod Opened
 pub mod Backwards
+pub mod Sums
+pub mod Eight
 pub mod Stored
+pub mod Agreeing
 pub mod Soundness
+pub mod Judging
 pub mod Keeps
 pub mod Freshness
 pub mod Finding
+pub mod Walked
 pub mod Unique

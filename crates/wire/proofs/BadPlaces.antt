@@ -1,15 +1,15 @@
 -- The first bad place of a list of fields: there is none exactly when every field obeys its rule, and where there is one it is the smallest
 -- offset of a bad byte. Assumes nothing.
-use Rattle.octets.proofs.Proving.{Bool, List, List·Memᴰ·cases-cons, List·Memᴰ·head, List·Memᴰ·not-nil, List·Memᴰ·tail, Option, [], _+_, _∙_, _∷_, _≡_, _≤_, _⊎_, ap, arith, drop, eqb, false, inl, inr, length, length-take, none, refl, some, subst, sym, true, ℕ, ⊎-elim}
+use Rattle.octets.proofs.Proving.{Bool, List, List·Memᴰ·cases-cons, List·Memᴰ·head, List·Memᴰ·not-nil, List·Memᴰ·tail, Option, [], _+_, _∙_, _∷_, _≡_, _≤_, _⊎_, ap, arith, drop, false, inl, inr, length, length-take, none, refl, some, subst, sym, true, ℕ, ⊎-elim}
 use Rattle.octets.specs.Bytes.{part, numberOf}
 use Rattle.octets.specs.Choice.{among}
 use Rattle.wire.specs.Letters.{space}
 use Rattle.wire.specs.Text.{tokenByte}
-use Rattle.wire.specs.Layout.{Rule, free, below, between, oneOf, legalToken, allZero, blank, Field, unless, badPlace, orElse, firstBadPlace, unbroken}
+use Rattle.wire.specs.Layout.{Rule, free, below, between, oneOf, legalToken, blank, Field, unless, badPlace, orElse, firstBadPlace, unbroken}
 use Rattle.wire.specs.Legal.{LetterDigitOrSpace, Obeys, _∈_, AllObey, BadByte, BadIn, FirstBad}
 use Rattle.wire.proofs.Layouts.{none-before, first-at, rest-unbroken}
-use Rattle.wire.proofs.Says.{Says, not-so, says-eq, says-lt, says-within, says-token, says-among, says-are}
-use Rattle.wire.proofs.FirstNot.{no-place, some-is, token-bytes, zero-bytes, all-pass, none-found, found-fails, found-first}
+use Rattle.wire.proofs.Says.{Says, not-so, says-lt, says-within, says-token, says-among, says-are}
+use Rattle.wire.proofs.FirstNot.{no-place, some-is, token-bytes, all-pass, none-found, found-fails, found-first}
 
 -- ---- a field that is judged as a whole
 
@@ -40,7 +40,6 @@ obeyed (below n) at xs h = whole-obeys (says-lt (numberOf xs) n) at h
 obeyed (between low high) at xs h = whole-obeys (says-within low (numberOf xs) high) at h
 obeyed (oneOf letters) at xs h = whole-obeys (says-among letters (numberOf xs)) at h
 obeyed legalToken at xs h = all-pass tokenByte LetterDigitOrSpace says-token at xs (sym (token-bytes at xs) ∙ h)
-obeyed allZero at xs h = all-pass (λ (x : ℕ). eqb x 0) (λ (x : ℕ). x ≡ 0) (λ x. says-eq x 0) at xs (sym (zero-bytes at xs) ∙ h)
 obeyed blank at xs h = whole-obeys (says-are space xs) at h
 
 clean : (rule : Rule) (at : ℕ) (xs : List ℕ) → Obeys rule xs → badPlace rule at xs ≡ none
@@ -50,7 +49,6 @@ clean (below n) at xs h = whole-clean (says-lt (numberOf xs) n) at h
 clean (between low high) at xs h = whole-clean (says-within low (numberOf xs) high) at h
 clean (oneOf letters) at xs h = whole-clean (says-among letters (numberOf xs)) at h
 clean legalToken at xs h = token-bytes at xs ∙ none-found tokenByte LetterDigitOrSpace says-token at xs h
-clean allZero at xs h = zero-bytes at xs ∙ none-found (λ (x : ℕ). eqb x 0) (λ (x : ℕ). x ≡ 0) (λ x. says-eq x 0) at xs h
 clean blank at xs h = whole-clean (says-are space xs) at h
 
 bad-there : (rule : Rule) (at : ℕ) (xs : List ℕ) (p : ℕ) → badPlace rule at xs ≡ some p → BadByte rule at xs p
@@ -60,7 +58,6 @@ bad-there (below n) at xs p h = whole-bad (says-lt (numberOf xs) n) at h
 bad-there (between low high) at xs p h = whole-bad (says-within low (numberOf xs) high) at h
 bad-there (oneOf letters) at xs p h = whole-bad (says-among letters (numberOf xs)) at h
 bad-there legalToken at xs p h = found-fails tokenByte LetterDigitOrSpace says-token at xs p (sym (token-bytes at xs) ∙ h)
-bad-there allZero at xs p h = found-fails (λ (x : ℕ). eqb x 0) (λ (x : ℕ). x ≡ 0) (λ x. says-eq x 0) at xs p (sym (zero-bytes at xs) ∙ h)
 bad-there blank at xs p h = whole-bad (says-are space xs) at h
 
 -- a bad byte lies in its field
@@ -71,7 +68,6 @@ bad-inside (below n) at xs q b = (omega (arith, b .0), omega (arith, b .0))
 bad-inside (between low high) at xs q b = (omega (arith, b .0), omega (arith, b .0))
 bad-inside (oneOf letters) at xs q b = (omega (arith, b .0), omega (arith, b .0))
 bad-inside legalToken at xs q b = (omega (arith, b .1 .0), omega (arith, b .1 .0, b .1 .1 .0))
-bad-inside allZero at xs q b = (omega (arith, b .1 .0), omega (arith, b .1 .0, b .1 .1 .0))
 bad-inside blank at xs q b = (omega (arith, b .0), omega (arith, b .0))
 
 -- and so does the place that is found
@@ -86,8 +82,6 @@ bad-first (between low high) at xs p h q b = omega (arith, whole-bad (says-withi
 bad-first (oneOf letters) at xs p h q b = omega (arith, whole-bad (says-among letters (numberOf xs)) at h .0, b .0)
 bad-first legalToken at xs p h q b =
     omega (arith, b .1 .0, found-first tokenByte LetterDigitOrSpace says-token at xs p (sym (token-bytes at xs) ∙ h) (b .0) (b .1 .1 .0) (b .1 .1 .1))
-bad-first allZero at xs p h q b =
-    omega (arith, b .1 .0, found-first (λ (x : ℕ). eqb x 0) (λ (x : ℕ). x ≡ 0) (λ x. says-eq x 0) at xs p (sym (zero-bytes at xs) ∙ h) (b .0) (b .1 .1 .0) (b .1 .1 .1))
 bad-first blank at xs p h q b = omega (arith, whole-bad (says-are space xs) at h .0, b .0)
 
 none-bad : (rule : Rule) (at : ℕ) (xs : List ℕ) → Obeys rule xs → (q : ℕ) → BadByte rule at xs q → ⊥
@@ -97,7 +91,6 @@ none-bad (below n) at xs h q b = b .1 h
 none-bad (between low high) at xs h q b = b .1 h
 none-bad (oneOf letters) at xs h q b = b .1 h
 none-bad legalToken at xs h q b = b .1 .1 .1 (h (b .0) (b .1 .1 .0))
-none-bad allZero at xs h q b = b .1 .1 .1 (h (b .0) (b .1 .1 .0))
 none-bad blank at xs h q b = b .1 h
 
 -- ---- all fields

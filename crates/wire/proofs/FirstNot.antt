@@ -1,9 +1,9 @@
 -- The search for the first byte that fails a test, once over every test: it finds none exactly when all bytes pass, and what it finds fails
 -- and is the first. Assumes nothing.
-use Rattle.octets.proofs.Proving.{Bool, List, Option, [], _+_, _<_, _∷_, _≡_, _≤_, ap, arith, eqb, getD, length, none, refl, some, suc, sym, zero, ℕ, ⊎-elim}
+use Rattle.octets.proofs.Proving.{Bool, List, Option, [], _+_, _<_, _∷_, _≡_, _≤_, ap, arith, getD, length, none, refl, some, suc, sym, zero, ℕ, ⊎-elim}
 use Rattle.octets.specs.Choice.{pick}
 use Rattle.wire.specs.Text.{tokenByte}
-use Rattle.wire.specs.Layout.{badTokenByte, nonZeroByte}
+use Rattle.wire.specs.Layout.{badTokenByte}
 use Rattle.wire.proofs.Says.{Says, seen, not-so}
 
 pub no-place : {A : Type 0} {p : ℕ} → none ≡ some p → A
@@ -20,11 +20,6 @@ pub token-bytes : (at : ℕ) (xs : List ℕ) → badTokenByte at xs ≡ firstNot
 unfolding badTokenByte firstNot
 token-bytes at [] = refl
 token-bytes at (x ∷ xs) = ap (λ (o : Option ℕ). pick (tokenByte x) o (some at)) (token-bytes (1 + at) xs)
-
-pub zero-bytes : (at : ℕ) (xs : List ℕ) → nonZeroByte at xs ≡ firstNot (λ (x : ℕ). eqb x 0) at xs
-unfolding nonZeroByte firstNot
-zero-bytes at [] = refl
-zero-bytes at (x ∷ xs) = ap (λ (o : Option ℕ). pick (eqb x 0) o (some at)) (zero-bytes (1 + at) xs)
 
 -- byte q, of the bytes xs that stand from `at` on, is none that P holds of
 abbrev pub Fails : (ℕ → Type 0) → ℕ → List ℕ → ℕ → Type 0

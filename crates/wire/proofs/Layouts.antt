@@ -1,11 +1,10 @@
 -- The laws of layouts, once over every list of fields: lengths, values that are spelled and read again, bytes that are read and spelled
 -- again. Assumes nothing.
-use Rattle.octets.proofs.Proving.{Bool, List, Option, [], _++_, _+_, _∙_, _∷_, _≡_, _≤_, ap, append-assoc, ap₂, arith, drop, drop-at, drop-cons, drop-drop, drop-of-length-le, eqb, eqb-true, false, getD, length, length-append, length-replicate, none, refl, some, sym, take, take-all, take-append-drop, take-at, true, zero, ℕ}
-use Rattle.octets.specs.Bytes.{part, numberOf, digits, zeros}
+use Rattle.octets.proofs.Proving.{List, Option, [], _++_, _+_, _∙_, _∷_, _≡_, _≤_, ap, append-assoc, ap₂, arith, drop, drop-at, drop-cons, drop-drop, drop-of-length-le, eqb, eqb-true, getD, length, length-append, none, refl, some, sym, take, take-all, take-append-drop, take-at, true, ℕ}
+use Rattle.octets.specs.Bytes.{part, numberOf, digits}
 use Rattle.octets.proofs.Laws.{number-digits, length-digits, digits-number, length-part, part-bytes}
 use Rattle.octets.proofs.Below.{both}
-use Rattle.octets.specs.Choice.{pick}
-use Rattle.wire.specs.Layout.{Form, number, bytes, gap, Rule, free, below, between, oneOf, legalToken, allZero, blank, Field, Value, Values, FitsField, Fits, readValue, spellValue, readFields, spellFields, nonZeroByte, badPlace, orElse, firstBadPlace, Layout, spell, unbroken, wellLaid, gapIsZero, gapsAreZero}
+use Rattle.wire.specs.Layout.{Form, number, bytes, Field, Value, Values, FitsField, Fits, readValue, spellValue, readFields, spellFields, orElse, Layout, spell, unbroken, wellLaid}
 use Rattle.wire.specs.Legal.{Bytes}
 
 -- ---- what the computed conditions say
@@ -38,7 +37,6 @@ none-before (some at) y e = let z : _≡_ {A = ℕ} 0 1 = cc in absurd (omega ar
 abbrev pub SizedField : (form : Form) → ℕ → Value form → Type 0
 SizedField number width v = Unit {0}
 SizedField bytes width v = length v ≡ width
-SizedField gap width v = Unit {0}
 
 abbrev pub Sized : (fs : List Field) → Values fs → Type 0
 Sized [] v = Unit {0}
@@ -47,44 +45,22 @@ Sized (f ∷ fs) v = SizedField (f .form) (f .width) (v .0) × Sized fs (v .1)
 pub length-value : (form : Form) (width : ℕ) (v : Value form) → SizedField form width v → length (spellValue form width v) ≡ width
 length-value number width v h = length-digits width v
 length-value bytes width v h = h
-length-value gap width v h = length-replicate width 0
 
 fits-sized : (form : Form) (width : ℕ) (v : Value form) → FitsField form width v → SizedField form width v
 fits-sized number width v h = tt
 fits-sized bytes width v h = h
-fits-sized gap width v h = tt
 
 value-again : (form : Form) (width : ℕ) (v : Value form) → FitsField form width v → readValue form (spellValue form width v) ≡ v
 unfolding numberOf
 value-again number width v h = number-digits width v h
 value-again bytes width v h = refl
-value-again gap width v h = refl
 
-all-zero : (xs : List ℕ) (at : ℕ) → nonZeroByte at xs ≡ none → xs ≡ zeros (length xs)
-unfolding nonZeroByte
-all-zero [] at h = refl
-all-zero (x ∷ xs) at h = go (eqb x 0) refl h (all-zero xs (1 + at))
-  where
-    go : (b : Bool) → eqb x 0 ≡ b → pick b (nonZeroByte (1 + at) xs) (some at) ≡ none → (nonZeroByte (1 + at) xs ≡ none → xs ≡ zeros (length xs))
-        → x ∷ xs ≡ zeros (length (x ∷ xs))
-    go true e h rest = ap₂ _∷_ (eqb-true x 0 e) (rest h)
-    go false e h rest = let z : _≡_ {A = ℕ} 0 1 = cc in absurd (omega arith)
-
-bytes-again : (form : Form) (rule : Rule) (at width : ℕ) (xs : List ℕ) → gapIsZero form rule ≡ true → badPlace rule at xs ≡ none → length xs ≡ width
-    → Bytes xs → spellValue form width (readValue form xs) ≡ xs
-unfolding badPlace
-bytes-again number rule at width xs g h e b =
+bytes-again : (form : Form) (width : ℕ) (xs : List ℕ) → length xs ≡ width → Bytes xs → spellValue form width (readValue form xs) ≡ xs
+bytes-again number width xs e b =
     ap (λ (n : ℕ). digits n (numberOf xs)) (sym e)
     ∙ ap (λ (l : List ℕ). digits (length xs) (numberOf l)) (sym (take-all (length xs) xs (omega arith)))
     ∙ digits-number xs b (length xs) (omega arith) ∙ take-all (length xs) xs (omega arith)
-bytes-again bytes rule at width xs g h e b = refl
-bytes-again gap allZero at width xs g h e b = ap zeros (sym e) ∙ sym (all-zero xs at h)
-bytes-again gap free at width xs g h e b = let z : _≡_ {A = ℕ} 0 1 = cc in absurd (omega arith)
-bytes-again gap (below n) at width xs g h e b = let z : _≡_ {A = ℕ} 0 1 = cc in absurd (omega arith)
-bytes-again gap (between low high) at width xs g h e b = let z : _≡_ {A = ℕ} 0 1 = cc in absurd (omega arith)
-bytes-again gap (oneOf letters) at width xs g h e b = let z : _≡_ {A = ℕ} 0 1 = cc in absurd (omega arith)
-bytes-again gap legalToken at width xs g h e b = let z : _≡_ {A = ℕ} 0 1 = cc in absurd (omega arith)
-bytes-again gap blank at width xs g h e b = let z : _≡_ {A = ℕ} 0 1 = cc in absurd (omega arith)
+bytes-again bytes width xs e b = refl
 
 -- ---- all fields
 
@@ -115,19 +91,16 @@ fields-again (f ∷ fs) v at size p h fits e =
     (ap (readValue (f .form)) (part-there p b r (f .at) (f .width) (e ∙ sym (first-at f fs at size h)) eb) ∙ value-again (f .form) (f .width) (v .0) (fits .0))
     (ap (readFields fs) (sym (append-assoc p b r)) ∙ fields-again fs (v .1) (at + f .width) size (p ++ b) (rest-unbroken f fs at size h) (fits .1) n)
 
-pub spelled-again : (fs : List Field) (at size : ℕ) (s : List ℕ) → unbroken at size fs ≡ true → gapsAreZero fs ≡ true → firstBadPlace fs s ≡ none
-    → length s ≡ size → Bytes s → spellFields fs (readFields fs s) ≡ drop at s
-unfolding unbroken gapsAreZero firstBadPlace
-spelled-again [] at size s h g legal e b = sym (drop-of-length-le s {i = at} (omega (arith, eqb-true at size h)))
-spelled-again (f ∷ fs) at size s h g legal e b =
+pub spelled-again : (fs : List Field) (at size : ℕ) (s : List ℕ) → unbroken at size fs ≡ true → length s ≡ size → Bytes s
+    → spellFields fs (readFields fs s) ≡ drop at s
+unfolding unbroken
+spelled-again [] at size s h e b = sym (drop-of-length-le s {i = at} (omega (arith, eqb-true at size h)))
+spelled-again (f ∷ fs) at size s h e b =
     let there : f .at ≡ at = first-at f fs at size h in
-    let xs : List ℕ = part s (f .at) (f .width) in
     let fit : f .at + f .width ≤ length s = omega (arith, inside fs (at + f .width) size (rest-unbroken f fs at size h)) in
-    let ok = none-before (badPlace (f .rule) (f .at) xs) (firstBadPlace fs s) legal in
-    let zero = both (gapIsZero (f .form) (f .rule)) (gapsAreZero fs) g in
     ap₂ _++_
-    (bytes-again (f .form) (f .rule) (f .at) (f .width) xs (zero .0) (ok .0) (length-part s (f .at) (f .width) fit) (part-bytes s b (f .at) (f .width)))
-    (spelled-again fs (at + f .width) size s (rest-unbroken f fs at size h) (zero .1) (ok .1) e b)
+    (bytes-again (f .form) (f .width) (part s (f .at) (f .width)) (length-part s (f .at) (f .width) fit) (part-bytes s b (f .at) (f .width)))
+    (spelled-again fs (at + f .width) size s (rest-unbroken f fs at size h) e b)
     ∙ rw there (ap (λ (l : List ℕ). part s at (f .width) ++ l) (sym (drop-drop (f .width) at s)) ∙ take-append-drop (f .width) (drop at s))
 
 -- ---- whole layouts
@@ -142,10 +115,9 @@ module _ (l : Layout) (well : wellLaid l ≡ true) where
   unfolding spell wellLaid
   values-again v fits = fields-again (l .fields) v 1 (l .size) (l .code ∷ []) well fits refl
 
-  -- the bytes of what was read from a legal message
-  pub message-again : gapsAreZero (l .fields) ≡ true → (s : List ℕ) → length s ≡ l .size → getD s 0 0 ≡ l .code → firstBadPlace (l .fields) s ≡ none
-      → Bytes s → spell l (readFields (l .fields) s) ≡ s
+  -- bytes of the layout's length and type, read and spelled again
+  pub message-again : (s : List ℕ) → length s ≡ l .size → getD s 0 0 ≡ l .code → Bytes s → spell l (readFields (l .fields) s) ≡ s
   unfolding spell wellLaid
-  message-again g s e t legal b =
-      ap₂ _∷_ (sym t) (spelled-again (l .fields) 1 (l .size) s well g legal e b)
+  message-again s e t b =
+      ap₂ _∷_ (sym t) (spelled-again (l .fields) 1 (l .size) s well e b)
       ∙ sym (drop-cons s 0 0 (omega (arith, whole l well)))

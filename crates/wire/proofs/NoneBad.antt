@@ -1,10 +1,9 @@
 -- When nothing of a field is bad, by its rule: tests that are computed, where the definition looks for the first bad place. Assumes nothing.
-use Rattle.octets.proofs.Proving.{Bool, List, Option, [], _&&_, _+_, _∙_, _∷_, _≡_, ap, eqb, false, getD, length, none, refl, some, sym, true, ℕ}
+use Rattle.octets.proofs.Proving.{Bool, List, Option, [], _&&_, _+_, _∙_, _∷_, _≡_, ap, false, getD, length, none, refl, some, sym, true, ℕ}
 use Rattle.octets.specs.Choice.{pick, allBelow}
-use Rattle.octets.specs.Bytes.{allAre}
 use Rattle.octets.proofs.Below.{all-first}
 use Rattle.wire.specs.Text.{tokenByte}
-use Rattle.wire.specs.Layout.{badTokenByte, nonZeroByte, unless, orElse, isNone}
+use Rattle.wire.specs.Layout.{badTokenByte, unless, orElse, isNone}
 
 pub none-of-both : (a b : Option ℕ) → isNone (orElse a b) ≡ (isNone a && isNone b)
 none-of-both none b = refl
@@ -17,11 +16,6 @@ none-unless false at = refl
 none-picked : (ok : Bool) (a : Option ℕ) (at : ℕ) → isNone (pick ok a (some at)) ≡ (ok && isNone a)
 none-picked true a at = refl
 none-picked false a at = refl
-
-pub zero-bytes : (at : ℕ) (xs : List ℕ) → isNone (nonZeroByte at xs) ≡ allAre 0 xs
-unfolding nonZeroByte allAre
-zero-bytes at [] = refl
-zero-bytes at (b ∷ bs) = none-picked (eqb b 0) (nonZeroByte (1 + at) bs) at ∙ ap (λ (t : Bool). eqb b 0 && t) (zero-bytes (1 + at) bs)
 
 -- every byte is one that a token holds
 abbrev pub legalToken : List ℕ → Bool

@@ -5,7 +5,7 @@ use Prim.Native.Char.{code}
 use Rattle.octets.proofs.Below.{all-at, both}
 use Rattle.octets.specs.Choice.{pick, allBelow}
 use Rattle.wire.specs.Limits.{longestMessage}
-use Rattle.wire.specs.Layout.{Layout, Field, shifted, stampAt, tokenAt, place, badPlace, firstBadPlace, layoutFor, unbroken, wellLaid, gapsAreZero}
+use Rattle.wire.specs.Layout.{Layout, Field, shifted, stampAt, tokenAt, place, badPlace, firstBadPlace, layoutFor, unbroken, wellLaid}
 use Rattle.wire.proofs.FirstNot.{no-place}
 use Rattle.wire.proofs.Found.{not-at-0}
 use Rattle.wire.specs.Messages.{messages, noMessage, messageLayout, sizeOr0, lengthFor}
@@ -81,18 +81,15 @@ at-most-longest k =
       | no h ↦ omega (arith, no-length k (omega arith))
     ]
 
--- what is asked of a layout, computed once for the sixteen: its fields leave no gap, nothing is lost in those that hold nothing, and its type is
--- a byte
+-- what is asked of a layout, computed once for the sixteen: its fields leave no gap, and its type is a byte
 laid : Layout → Bool
-laid l = wellLaid l && (gapsAreZero (l .fields) && ltb (l .code) 256)
+laid l = wellLaid l && ltb (l .code) 256
 
-pub well-laid : (k : ℕ) → k < 16
-    → (wellLaid (messageLayout k) ≡ true) × ((gapsAreZero (messageLayout k .fields) ≡ true) × (messageLayout k .code < 256))
-unfolding allBelow Tests laid wellLaid unbroken gapsAreZero
+pub well-laid : (k : ℕ) → k < 16 → (wellLaid (messageLayout k) ≡ true) × (messageLayout k .code < 256)
+unfolding allBelow Tests laid wellLaid unbroken
 well-laid k h =
     let a = both (wellLaid (messageLayout k)) _ (tested (λ (j : ℕ). laid (messageLayout j)) 16 refl k h) in
-    let b = both (gapsAreZero (messageLayout k .fields)) _ (a .1) in
-    (a .0, (b .0, ltb-true (messageLayout k .code) 256 (b .1)))
+    (a .0, ltb-true (messageLayout k .code) 256 (a .1))
 
 -- a place within message j lies within what has its length
 pub fits : {k j m n : ℕ} → k ≡ j → m ≡ messageLayout k .size → T (leb n (messageLayout j .size)) → n ≤ m

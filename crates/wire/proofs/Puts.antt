@@ -3,13 +3,12 @@
 use Rattle.octets.proofs.Proving.{List, [], _++_, _+_, _∙_, _∷_, _≡_, _≤_, ap, append-assoc, arith, length, refl, sym, true, ℕ}
 use Rattle.octets.specs.Bytes.{put}
 use Rattle.octets.proofs.Laws.{put-none, put-put, length-put}
-use Rattle.wire.specs.Layout.{Form, number, bytes, gap, Field, Values, bothValues, Value, PutField, PutFields, ends, _then_, spellValue, spellFields, unbroken}
+use Rattle.wire.specs.Layout.{Form, number, bytes, Field, Values, bothValues, Value, PutField, PutFields, ends, _then_, spellValue, spellFields, unbroken}
 use Rattle.wire.proofs.Layouts.{SizedField, Sized, length-value, length-fields, inside, first-at, rest-unbroken}
 
 as-spelled : (form : Form) (at width : ℕ) (v : Value form) (t u : List ℕ) → PutField form at width v t u → (u ≡ put t at (spellValue form width v)) × SizedField form width v
 as-spelled number at width v t u h = (h, tt)
 as-spelled bytes at width v t u h = h
-as-spelled gap at width v t u h = (h, tt)
 
 pub puts : {fs : List Field} {v : Values fs} {t u : List ℕ} → PutFields fs v t u → (n size : ℕ) → unbroken n size fs ≡ true → size ≤ length t
     → (u ≡ put t n (spellFields fs v)) × Sized fs v

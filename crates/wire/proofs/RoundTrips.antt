@@ -6,7 +6,7 @@ use Rattle.octets.specs.Bytes.{zeros}
 use Rattle.answers.specs.Answer.{isDone, ifDone}
 use Rattle.answers.specs.declared.Answer.{Answer}
 use Rattle.answers.specs.declared.Answer.the-variants.{Done, NoRoom}
-use Rattle.wire.specs.Layout.{Layout, Values, Fits, FromFields, atOnce, reading, readFields, firstBadPlace, spell, wellLaid, gapsAreZero}
+use Rattle.wire.specs.Layout.{Layout, Values, Fits, FromFields, atOnce, reading, readFields, firstBadPlace, spell, wellLaid}
 use Rattle.wire.specs.Messages.{badAt_⨾_, messageLayout, readAnswer, legalOrZeros, writeAnswer, bufferAfter}
 use Rattle.wire.specs.Legal.{Bytes}
 use Rattle.wire.specs.Faithful.{Faithful}
@@ -35,11 +35,11 @@ module _ (l : Layout) (m buffer : List ℕ) (long : length m ≡ l .size) (typed
   legal-sent e room =
       rw (no-bad-place (l .fields) m (done-exactly l m .0 e .judged), le-ltb (length buffer) (l .size) room)
 
-module _ (l : Layout) (well : wellLaid l ≡ true) (gaps : gapsAreZero (l .fields) ≡ true) where
+module _ (l : Layout) (well : wellLaid l ≡ true) where
   same-bytes : (s : List ℕ) → Bytes s → readAnswer l s ≡ Done → spell l (readFields (l .fields) s) ≡ s
   same-bytes s b e =
       let h = done-exactly l s .0 e in
-      message-again l well gaps s (h .long) (h .typed) (no-bad-place (l .fields) s (h .judged)) b
+      message-again l well s (h .long) (h .typed) b
 
   same-buffer : (s : List ℕ) → Bytes s → readAnswer l s ≡ Done → (buffer : List ℕ) → l .size ≤ length buffer
       → (m : List ℕ) → m ≡ s → (writeAnswer l m buffer ≡ Done) × (bufferAfter l m buffer ≡ s ++ drop (l .size) buffer)
@@ -89,7 +89,7 @@ pub faithful : (k : ℕ) → T (ltb k 16) → {X : Type 0} (made : FromFields (m
     → ((m : X) → atOnce (messageLayout k .fields) made (values m) ≡ m)
     → ((v : Values (messageLayout k .fields)) → values (atOnce (messageLayout k .fields) made v) ≡ v)
     → Faithful (messageLayout k) (λ (s : List ℕ). reading (messageLayout k .fields) s made) (λ (m : X). spell (messageLayout k) (values m)) values
-faithful k h made values whole apart = let ok = well-laid k (lit< h) in trips (messageLayout k) (ok .0) (ok .1 .0) made values whole apart
+faithful k h made values whole apart = trips (messageLayout k) (well-laid k (lit< h) .0) made values whole apart
 
 -- the bytes that a reader takes its fields from are as many as its message has, legal or not
 legal-long : (l : Layout) (s : List ℕ) → length (legalOrZeros l s) ≡ l .size

@@ -28,7 +28,7 @@ ran l well code small {v} r =
 -- message k is spelled so, behind its type
 pub spelled : (k : ℕ) → T (ltb k 16) → {v : Values (messageLayout k .fields)} {t u : List ℕ} → t ≡ put (zeros longestMessage) 0 (digits 1 (messageLayout k .code))
     → PutFields (messageLayout k .fields) v t u → (u ≡ inEighty (spell (messageLayout k) v)) × (length (spell (messageLayout k) v) ≡ messageLayout k .size)
-spelled k h e r = let ok = well-laid k (lit< h) in ran (messageLayout k) (ok .0) (ok .1 .1) (at-most-longest k) (rw e at r)
+spelled k h e r = let ok = well-laid k (lit< h) in ran (messageLayout k) (ok .0) (ok .1) (at-most-longest k) (rw e at r)
 
 -- what was spelled is what is sent
 pub written : (l : Layout) (m buffer : List ℕ) {u exit : List ℕ} {r : Answer} → (u ≡ inEighty m) × (length m ≡ l .size)

@@ -11,14 +11,13 @@ use lib.ListN.{length}
 use Rattle.octets.specs.Choice.{pick, among}
 use Rattle.wire.specs.Letters.{space, sides, sweeps, liquidityFlags, bookReasons, systemEvents, stockStates}
 use Rattle.wire.specs.Limits.{stampEnd, tokenSize, lowestPrice, highestPrice}
-use Rattle.octets.specs.Bytes.{part, put, numberOf, digits, zeros, allAre}
+use Rattle.octets.specs.Bytes.{part, put, numberOf, digits, allAre}
 use Rattle.wire.specs.Text.{tokenByte}
 
--- a field holds a number, a text, or nothing (zeros)
+-- a field holds a number or a text
 pub data Form : Type 0 where
   number : Form
   bytes : Form
-  gap : Form
 
 -- what is judged of it
 pub data Rule : Type 0 where
@@ -27,7 +26,6 @@ pub data Rule : Type 0 where
   between : ℕ → ℕ → Rule
   oneOf : String → Rule
   legalToken : Rule
-  allZero : Rule
   blank : Rule
 
 pub record Field : Type 0 where
@@ -52,9 +50,6 @@ rangeAt at width low high = record { at = at; width = width; form = number; rule
 
 abbrev pub oneOfAt : ℕ → String → Field
 oneOfAt at letters = record { at = at; width = 1; form = number; rule = oneOf letters }
-
-abbrev pub gapAt : ℕ → ℕ → Field
-gapAt at width = record { at = at; width = width; form = gap; rule = allZero }
 
 -- spaces and nothing else
 abbrev pub blankAt : ℕ → ℕ → Field
@@ -94,7 +89,6 @@ limitPriceAt at = rangeAt at 4 lowestPrice highestPrice
 abbrev pub Value : Form → Type 0
 Value number = ℕ
 Value bytes = List ℕ
-Value gap = Unit {0}
 
 abbrev pub Values : List Field → Type 0
 Values [] = Unit {0}
@@ -108,12 +102,10 @@ a & b = (a, b)
 abbrev pub readValue : (form : Form) → List ℕ → Value form
 readValue number xs = numberOf xs
 readValue bytes xs = xs
-readValue gap xs = tt
 
 abbrev pub spellValue : (form : Form) → ℕ → Value form → List ℕ
 spellValue number width v = digits width v
 spellValue bytes width v = v
-spellValue gap width v = zeros width
 
 -- a field's value, of all the bytes
 abbrev pub get : (f : Field) → List ℕ → Value (f .form)
@@ -131,7 +123,6 @@ spellFields (f ∷ fs) v = spellValue (f .form) (f .width) (v .0) ++ spellFields
 abbrev pub PutField : (form : Form) → ℕ → ℕ → Value form → List ℕ → List ℕ → Type 0
 PutField number at width v t u = u ≡ put t at (digits width v)
 PutField bytes at width v t u = (u ≡ put t at v) × (length v ≡ width)
-PutField gap at width v t u = u ≡ put t at (zeros width)
 
 -- .. and with the values of fields, one after the other
 infixr 5 _then_
@@ -149,7 +140,6 @@ bothValues (f ∷ fs) gs v w = (v .0, bothValues fs gs (v .1) w)
 abbrev pub FitsField : (form : Form) → ℕ → Value form → Type 0
 FitsField number width v = v < 256 ^ width
 FitsField bytes width v = length v ≡ width
-FitsField gap width v = Unit {0}
 
 abbrev pub Fits : (fs : List Field) → Values fs → Type 0
 Fits [] v = Unit {0}
@@ -187,10 +177,6 @@ unfoldable pub badTokenByte : ℕ → List ℕ → Option ℕ
 badTokenByte at [] = none
 badTokenByte at (b ∷ bs) = pick (tokenByte b) (badTokenByte (1 + at) bs) (some at)
 
-unfoldable pub nonZeroByte : ℕ → List ℕ → Option ℕ
-nonZeroByte at [] = none
-nonZeroByte at (b ∷ bs) = pick (eqb b 0) (nonZeroByte (1 + at) bs) (some at)
-
 abbrev pub unless : Bool → ℕ → Option ℕ
 unless ok at = pick ok none (some at)
 
@@ -201,7 +187,6 @@ badPlace (below n) at xs = unless (ltb (numberOf xs) n) at
 badPlace (between low high) at xs = unless (leb low (numberOf xs) && leb (numberOf xs) high) at
 badPlace (oneOf letters) at xs = unless (among letters (numberOf xs)) at
 badPlace legalToken at xs = badTokenByte at xs
-badPlace allZero at xs = nonZeroByte at xs
 badPlace blank at xs = unless (allAre space xs) at
 
 abbrev pub orElse : Option ℕ → Option ℕ → Option ℕ
@@ -254,22 +239,6 @@ unbroken at size (f ∷ fs) = eqb (f .at) at && unbroken (at + f .width) size fs
 
 unfoldable pub wellLaid : Layout → Bool
 wellLaid l = unbroken 1 (l .size) (l .fields)
-
--- a gap is judged to be zeros, so that nothing of the bytes is lost where they are read and spelled again
-abbrev pub gapIsZero : Form → Rule → Bool
-gapIsZero gap allZero = true
-gapIsZero gap free = false
-gapIsZero gap (below n) = false
-gapIsZero gap (between low high) = false
-gapIsZero gap (oneOf letters) = false
-gapIsZero gap legalToken = false
-gapIsZero gap blank = false
-gapIsZero number rule = true
-gapIsZero bytes rule = true
-
-unfoldable pub gapsAreZero : List Field → Bool
-gapsAreZero [] = true
-gapsAreZero (f ∷ fs) = gapIsZero (f .form) (f .rule) && gapsAreZero fs
 
 -- a field that stands k bytes further on
 abbrev pub shifted : ℕ → Field → Field

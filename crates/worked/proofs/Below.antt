@@ -1,5 +1,6 @@
 -- Everything that the crates below define, open at once, for proofs by computation. Assumes nothing.
 use Rattle.octets.proofs.Opened.{opened as octets-opened}
+use Rattle.bitrow.proofs.Opened.{opened as bitrow-opened}
 use Rattle.answers.proofs.Opened.{opened as answers-opened}
 use Rattle.wire.proofs.Opened.{opened as wire-opened}
 use Rattle.outbox.proofs.Opened.{opened as outbox-opened}
@@ -9,6 +10,7 @@ use Rattle.orders.proofs.Opened.{opened as orders-opened}
 use Rattle.header.proofs.Opened.{opened as header-opened}
 use Rattle.stocks.proofs.Opened.{opened as stocks-opened}
 use Rattle.table.proofs.Opened.{opened as table-opened}
+use Rattle.convert.proofs.Opened.{opened as convert-opened}
 use Rattle.tape.proofs.Opened.{opened as tape-opened}
 use Rattle.host.proofs.Opened.{opened as host-opened}
 use Rattle.rules.specs.Plan.{refused, allowed, changing, renumbering, accepting, replacing, rejecting, beginning, blocking, setting}
@@ -29,5 +31,5 @@ use Rattle.notices.specs.Notices.{statedOrder, acceptedNotice, replacedNotice, 
 use Rattle.tape.specs.Entries.{namesOrder}
 
 unfoldable pub below : Unit {0}
-unfolding octets-opened answers-opened wire-opened outbox-opened inbound-opened outbound-opened orders-opened header-opened stocks-opened table-opened tape-opened host-opened refused allowed changing renumbering accepting replacing rejecting beginning blocking setting badStock badDisplay badPrice badShares badMinimum faultOfNumbers enterFault acceptedTerms enteredKept enteredOrder enterOutcome enterRule badBesidePrice badDetails replacementOrder canceledWhole replaceOpen replaceRule newOpen cancelIgnored lateCancel decrement canceledOrder cancelRule sideAllowed modifyIgnored modifiedOrder modifyRule ofListed wantedBy purgeRule blockingRule marketAnswer sharesRight executionRule bookCancelRule selfMatchRule prioritisedOrder priorityRule lateRule crossDone crossDoneRule systemRule haltRule statedOrder acceptedNotice replacedNotice canceledNotice selfMatchNotice executedNotice rejectedNotice priorityNotice modifiedNotice noticeBytes message sent namesOrder
+unfolding octets-opened bitrow-opened answers-opened wire-opened outbox-opened inbound-opened outbound-opened orders-opened header-opened stocks-opened table-opened convert-opened tape-opened host-opened refused allowed changing renumbering accepting replacing rejecting beginning blocking setting badStock badDisplay badPrice badShares badMinimum faultOfNumbers enterFault acceptedTerms enteredKept enteredOrder enterOutcome enterRule badBesidePrice badDetails replacementOrder canceledWhole replaceOpen replaceRule newOpen cancelIgnored lateCancel decrement canceledOrder cancelRule sideAllowed modifyIgnored modifiedOrder modifyRule ofListed wantedBy purgeRule blockingRule marketAnswer sharesRight executionRule bookCancelRule selfMatchRule prioritisedOrder priorityRule lateRule crossDone crossDoneRule systemRule haltRule statedOrder acceptedNotice replacedNotice canceledNotice selfMatchNotice executedNotice rejectedNotice priorityNotice modifiedNotice noticeBytes message sent namesOrder
 below = tt

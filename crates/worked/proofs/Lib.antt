@@ -9,3 +9,5 @@ pub mod Odds
 pub mod Places
 pub mod Halts
 pub mod Purges
+pub mod Counts
+pub mod Olds

@@ -11,3 +11,5 @@ pub mod Odds
 pub mod Places
 pub mod Halts
 pub mod Purges
+pub mod Counts
+pub mod Olds

@@ -13,13 +13,13 @@ use Rattle.table.specs.Fresh.{freshAnswer, freshTable}
 use Rattle.outbox.specs.Outbox.{readRun, releaseAnswer, releaseMarks, ringWith}
 use Rattle.outbox.specs.declared.marks.Marks.{Marks}
 use Rattle.host.specs.Step.{step, world}
-use Rattle.worked.specs.Play.{settings, practice, oneStock, small, play}
+use Rattle.worked.specs.Play.{settings, practice, oneStock, small, play, tableAfter}
 use Rattle.worked.specs.Entries.{token, finish, enter, good, replace, cancel, prioritise, crossDone, _then_, entered, enteredLate, full}
 
 -- ---- a table that is sound, and one byte changed
 
 unfoldable pub someTable : List ℕ
-someTable = play small full .world .books .table
+someTable = tableAfter full
 
 unfoldable pub damaged : ℕ → ℕ → List ℕ
 damaged at b = set someTable at b
@@ -30,7 +30,7 @@ soundness =
     ∷ not (sound (damaged 0 3))  -- day
     ∷ not (sound (damaged 1 0))  -- firm count
     ∷ not (sound (damaged 1 2))  -- a second firm that is zero
-    ∷ not (sound (damaged 2 1))  -- a byte that is zero
+    ∷ not (sound (damaged 2 0))  -- the old form (Ask 6)
     ∷ sound (damaged 3 1)  -- the one firm blocked (Ask 5)
     ∷ not (sound (damaged 3 2))  -- a bit past the firm count
     ∷ not (sound (damaged 7 4))  -- used, of three records
@@ -40,7 +40,7 @@ soundness =
     ∷ not (sound (damaged 24 1))  -- threshold
     ∷ not (sound (damaged 28 32))  -- the first firm's first letter
     ∷ not (sound (damaged 32 65))  -- a firm past the count
-    ∷ not (sound (damaged 63 1))  -- a byte that is zero
+    ∷ not (sound (damaged 63 1))  -- the sum of open shares (Ask 6)
     ∷ not (sound (damaged 64 68))  -- dead with shares open
     ∷ not (sound (damaged 64 65))  -- no state
     ∷ not (sound (damaged 65 33))  -- token
@@ -48,7 +48,8 @@ soundness =
     ∷ sound (damaged 79 0)  -- a side is not judged
     ∷ sound (damaged 143 9)  -- nor is byte 79
     ∷ not (sound (damaged 303 9))  -- but in a rejected token
-    ∷ not (sound (take 303 someTable))  -- a byte short
+    ∷ not (sound (damaged 304 1))  -- the bits (Ask 6)
+    ∷ not (sound (take 304 someTable))  -- a byte short
     ∷ not (sound (take 64 someTable))  -- no record
     ∷ []
 
@@ -68,12 +69,12 @@ answerAtEnd e =
     answerNumber (step (world (put (w .books .table) 16 (digits 8 1_000_000_000_000_000_000)) (w .ring) (w .marks) (w .books .stocks)) e .answer)
 
 unfoldable pub flagsAfter : List (List ℕ) → ℕ
-flagsAfter es = orderNamed (play small es .world .books .table) (token "A") .flags
+flagsAfter es = orderNamed (tableAfter es) (token "A") .flags
 
 unfoldable pub stepOdds : List Bool
 stepOdds =
     -- 10 before 11, and 11: length, place, count
-    eqb (answerOver (damaged 2 1) 79 0 0) 10
+    eqb (answerOver (damaged 2 0) 79 0 0) 10
     ∷ eqb (answerOver someTable 79 0 0) 11
     ∷ eqb (answerOver someTable 80 80 0) 11
     ∷ eqb (answerOver someTable 80 0 81) 11
@@ -100,18 +101,18 @@ fresh size threshold firms count = answerNumber (freshAnswer (zeros size) (setti
 
 unfoldable pub callOdds : List Bool
 callOdds =
-    eqb (fresh 144 1 ("A   " ∷ []) 1) 0
-    ∷ eqb (fresh 144 1_000_000 ("A   " ∷ "BC  " ∷ []) 2) 0
+    eqb (fresh 145 1 ("A   " ∷ []) 1) 0
+    ∷ eqb (fresh 145 1_000_000 ("A   " ∷ "BC  " ∷ []) 2) 0
     -- 10: a bad length, before bad settings
-    ∷ eqb (fresh 143 0 ("A   " ∷ []) 1) 10
+    ∷ eqb (fresh 144 0 ("A   " ∷ []) 1) 10
     ∷ eqb (fresh 64 1 ("A   " ∷ []) 1) 10
     -- 3: threshold, firm, count
-    ∷ eqb (fresh 144 0 ("A   " ∷ []) 1) 3
-    ∷ eqb (fresh 144 1_000_001 ("A   " ∷ []) 1) 3
-    ∷ eqb (fresh 144 1 ("A A " ∷ []) 1) 3
-    ∷ eqb (fresh 144 1 ("A   " ∷ []) 2) 3
-    ∷ eqb (fresh 144 1 ("A   " ∷ []) 0) 3
-    ∷ sound (freshTable (zeros 144) practice)
+    ∷ eqb (fresh 145 0 ("A   " ∷ []) 1) 3
+    ∷ eqb (fresh 145 1_000_001 ("A   " ∷ []) 1) 3
+    ∷ eqb (fresh 145 1 ("A A " ∷ []) 1) 3
+    ∷ eqb (fresh 145 1 ("A   " ∷ []) 2) 3
+    ∷ eqb (fresh 145 1 ("A   " ∷ []) 0) 3
+    ∷ sound (freshTable (zeros 145) practice)
     -- a message goes behind the held bytes and wraps
     ∷ same (ringWith (zeros 8) (marks 6 1) (1 ∷ 2 ∷ 3 ∷ [])) (2 ∷ 3 ∷ 0 ∷ 0 ∷ 0 ∷ 0 ∷ 0 ∷ 1 ∷ [])
     -- the longest unbroken run; none over a wrong length

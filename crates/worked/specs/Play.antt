@@ -1,5 +1,5 @@
 -- A host to play on, and how a list of entries is played on it.
-use Prim.Native.Nat.{ℕ, _+_, _*_}
+use Prim.Native.Nat.{ℕ}
 use Prim.Native.String.{String}
 use mathlib.Core.List.{List, [], _∷_, _++_, map}
 use lib.ListN.{length, take, replicate}
@@ -7,10 +7,10 @@ use Rattle.octets.specs.Choice.{text}
 use Rattle.octets.specs.Bytes.{zeros}
 use Rattle.answers.specs.Answer.{answerNumber}
 use Rattle.wire.specs.Shares.{total}
-use Rattle.header.specs.Limits.{headerSize, mostFirms, firmSize}
+use Rattle.header.specs.Limits.{mostFirms, firmSize}
 use Rattle.header.specs.declared.settings.Firm.{Firm}
 use Rattle.header.specs.declared.settings.Settings.{Settings}
-use Rattle.orders.specs.Limits.{recordSize}
+use Rattle.table.specs.Table.{tableSize}
 use Rattle.table.specs.Fresh.{freshTable}
 use Rattle.outbox.specs.Outbox.{held, releaseMarks}
 use Rattle.host.specs.Step.{World, world, step}
@@ -35,7 +35,7 @@ oneStock = text "ABC     T"
 
 -- fresh, with n records, a ring of r bytes and that stock
 unfoldable pub host : Settings → ℕ → ℕ → World
-host s n r = world (freshTable (zeros (headerSize + recordSize * n)) s) (zeros r) (record { at = 0; held = 0 }) oneStock
+host s n r = world (freshTable (zeros (tableSize n)) s) (zeros r) (record { at = 0; held = 0 }) oneStock
 
 -- the same with another list
 infixl 68 _lending_
@@ -71,3 +71,7 @@ play w (e ∷ es) =
       sent = held (r .world .ring) (r .world .marks) ∷ rest .sent;
       world = rest .world;
     }
+
+-- the table that these entries leave on the small host
+unfoldable pub tableAfter : List (List ℕ) → List ℕ
+tableAfter es = play small es .world .books .table

@@ -2,9 +2,11 @@
 
 #![deny(unsafe_code)]
 
+mod counts;
 #[cfg(any(weighed, test))]
 mod find;
 mod list;
+mod next;
 mod plain;
 mod race;
 mod report;
@@ -24,6 +26,8 @@ use rows::Row;
 
 /// Used records of the tables that are stepped on.
 const USED: [usize; 3] = [1, 100, 800];
+/// Records of the tables whose status is asked for.
+const TOLD: [usize; 3] = [8, 100, 800];
 /// How many runs there are where no number is given.
 const RUNS: usize = 9;
 
@@ -38,7 +42,7 @@ fn main() -> ExitCode {
     };
     if !cfg!(weighed) {
         eprintln!(
-            "no libscales.a beside the archive: sound, find, put and the list alone are left out"
+            "no libscales.a beside the archive: sound, the searches, put and the list alone are left out"
         );
     }
     println!("| what | proved | beside | its time | ratio | over {runs} runs | claim |");
@@ -56,7 +60,9 @@ fn run() -> Vec<Row> {
     rows.extend(USED.into_iter().flat_map(rows::cancels));
     // A table of one order needs no search.
     rows.extend(USED.into_iter().skip(1).map(rows::purge));
-    rows.extend(USED.last().copied().map(rows::purge_of_none));
+    rows.extend(USED.last().copied().into_iter().flat_map(rows::purges));
+    rows.extend(TOLD.into_iter().flat_map(rows::statuses));
+    rows.extend(TOLD.last().copied().map(rows::conversion));
     #[cfg(weighed)]
     rows.extend(rows::weighed(&USED));
     rows.extend(rows::release_alone());

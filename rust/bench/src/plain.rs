@@ -4,11 +4,19 @@
 use pilaqsevi::{Marks, SYMBOL_SIZE};
 use second::Told;
 
-use crate::{list, ring};
+use crate::{list, next, ring};
 
 const HEADER_LEN: usize = 64;
 const RECORD_LEN: usize = 80;
 const MOST_RECORDS: usize = 800;
+/// How many records share a byte of the bits behind them, and how many bytes the most records take.
+const A_BYTE: usize = 8;
+const MOST_BITS: usize = MOST_RECORDS / A_BYTE;
+/// Where a header has its form and its sum of open shares.
+pub const FORM: usize = 2;
+pub const SUM: usize = 60;
+/// The form of a table that has them; the old form's byte is 0.
+pub const COUNTED: u8 = 1;
 const MOST_SHARES: u64 = 999_999;
 const HIGHEST_THRESHOLD: u32 = 1_000_000;
 const LAST_REFERENCE: u64 = 1_000_000_000_000_000_000;
@@ -17,19 +25,30 @@ const DAY_NANOS: u64 = 86_400_000_000_000;
 const HEAD_LEN: usize = 23;
 /// What is sent at most: those bytes and five more.
 const SENT_LEN: usize = HEAD_LEN + 5;
-/// What a w says instead of a symbol when it means all of them.
-const ALL_SYMBOLS: Symbol = [b' '; SYMBOL_SIZE];
 /// An order's flags.
-const LATE: u8 = 1;
+pub const LATE: u8 = 1;
 const PENDING: u8 = 2;
 const REJECT_SENT: u8 = 4;
 
-type Header = [u8; HEADER_LEN];
+pub type Header = [u8; HEADER_LEN];
 pub type Record = [u8; RECORD_LEN];
 type Stamp = [u8; 8];
 type Token = [u8; 14];
-type Firm = [u8; 4];
-type Symbol = [u8; SYMBOL_SIZE];
+pub type Firm = [u8; 4];
+pub type Symbol = [u8; SYMBOL_SIZE];
+
+/// A table, cut where its length says.
+pub struct Parts<'a> {
+    pub header: &'a Header,
+    pub records: &'a [Record],
+    pub bits: &'a [u8],
+}
+
+/// What a walk over the used records counts: a bit for each live order, and their open shares.
+pub struct Count {
+    pub bits: [u8; MOST_BITS],
+    pub open: u32,
+}
 
 /// What is wanted of a client's order, or of the next of a firm's.
 enum Wish<'a> {
@@ -60,17 +79,38 @@ struct Deed {
     sent_len: usize,
 }
 
-/// Whether the table is sound.
+/// Whether the table is sound: its header and its used records are, and what is counted of these is
+/// what it holds.
 pub fn judge(table: &[u8]) -> bool {
-    let Some((header, records)) = split(table) else {
+    let Some(parts) = split(table) else {
         return false;
     };
-    let used = number(header, 4) as usize;
-    (1..=MOST_RECORDS).contains(&records.len())
-        && header_sound(header)
-        && records
-            .get(..used)
-            .is_some_and(|used| used.iter().all(record_sound))
+    let Parts { header, bits, .. } = parts;
+    header[FORM] == COUNTED
+        && count(header, parts.records).is_some_and(|count| {
+            count.open == number(header, SUM) && count.bits[..bits.len()] == *bits
+        })
+}
+
+/// Counts the live orders of a table, in one pass that judges them; nothing where header or records
+/// aren't sound. Form and sum, in which the old form differs, are the caller's to judge.
+pub fn count(header: &Header, records: &[Record]) -> Option<Count> {
+    let used = records.get(..number(header, 4) as usize)?;
+    if !header_sound(header) {
+        return None;
+    }
+    let (mut bits, mut open) = ([0; MOST_BITS], 0);
+    for (place, record) in used.iter().enumerate() {
+        if !record_sound(record) {
+            return None;
+        }
+        if live(record) {
+            bits[place / A_BYTE] |= 1 << (place % A_BYTE);
+            // At most 800 times 999,999, so that it fits.
+            open += open_shares(record);
+        }
+    }
+    Some(Count { bits, open })
 }
 
 /// The first used record of this token.
@@ -79,26 +119,14 @@ pub fn find(table: &[u8], token: &Token) -> Option<usize> {
     used.position(|record| record[1..15] == *token)
 }
 
-/// The first used record with an order that a w of this firm and symbol cancels.
-fn find_wanted(table: &[u8], firm: &Firm, symbol: &Symbol) -> Option<usize> {
-    let all = *symbol == ALL_SYMBOLS;
-    let mut used = used(table).iter();
-    used.position(|record| {
-        record[0] == b'L'
-            && record[64] & LATE == 0
-            && record[44..48] == *firm
-            && (all || record[28..36] == *symbol)
-    })
-}
-
 /// The used records; none of a table that can't have so many.
 pub fn used(table: &[u8]) -> &[Record] {
-    let used = split(table).and_then(|(header, records)| records.get(..number(header, 4) as usize));
+    let used = split(table).and_then(|parts| parts.records.get(..number(parts.header, 4) as usize));
     used.unwrap_or_default()
 }
 
 /// The whole step of a Modify, a Cancel or a w: table, ring, list and entry judged, the order found,
-/// the rule decided, and record, header and message written. Another kind is answered 2, since none
+/// the rule decided, and record, bit, header and message written. Another kind is answered 2, since none
 /// is measured.
 #[inline(never)]
 pub fn step(
@@ -126,13 +154,11 @@ pub fn step(
     let Some((place, deed)) = decided(table, wish) else {
         return answer(1);
     };
-    let (records, _) = table[HEADER_LEN..].as_chunks_mut();
-    let record = &mut records[place];
-    let message = message(stamp, record, &deed);
+    let message = message(stamp, &used(table)[place], &deed);
     let put = ring::put(ring, *marks, &message[..deed.sent_len]);
     if put == 0 {
         marks.held += deed.sent_len;
-        write(record, &deed);
+        write(table, place, &deed);
         table[8..16].copy_from_slice(stamp);
     }
     answer(put)
@@ -209,7 +235,7 @@ fn unlisted(table: &[u8], wish: &Wish) -> bool {
     let Wish::Purge { firm, .. } = wish else {
         return false;
     };
-    !split(table).is_some_and(|(header, _)| {
+    !split(table).is_some_and(|Parts { header, .. }| {
         let mut listed = firms(header).iter().take(usize::from(header[1]));
         listed.any(|listed| listed == *firm)
     })
@@ -219,9 +245,11 @@ fn unlisted(table: &[u8], wish: &Wish) -> bool {
 fn decided(table: &[u8], wish: Wish) -> Option<(usize, Deed)> {
     let place = match wish {
         Wish::Modify { token, .. } | Wish::Cancel { token, .. } => find(table, token),
-        Wish::Purge { firm, symbol } => find_wanted(table, firm, symbol),
+        Wish::Purge { firm, symbol } => next::walking(table, firm, symbol),
     }?;
-    let (header, records) = split(table)?;
+    let Parts {
+        header, records, ..
+    } = split(table)?;
     let record = &records[place];
     let deed = match wish {
         Wish::Modify { side, shares, .. } => modified(record, header[0], side, shares),
@@ -236,7 +264,7 @@ fn modified(record: &Record, day: u8, side: u8, shares: u32) -> Option<Deed> {
     let (old_side, liable) = (record[15], number(record, 16));
     let spent = number(record, 20) + number(record, 24);
     let among_sells = b"STE".contains(&side) && b"STE".contains(&old_side);
-    let taken = record[0] == b'L'
+    let taken = live(record)
         && day == 1
         && record[64] & LATE == 0
         && (side == old_side || among_sells)
@@ -263,7 +291,7 @@ fn modified(record: &Record, day: u8, side: u8, shares: u32) -> Option<Deed> {
 fn canceled(record: &Record, size: u32) -> Option<Deed> {
     let new_open = size.saturating_sub(number(record, 20));
     let flags = record[64];
-    if record[0] != b'L' || new_open >= open(record) || flags & PENDING != 0 {
+    if !live(record) || new_open >= open_shares(record) || flags & PENDING != 0 {
         return None;
     }
     if flags & LATE != 0 {
@@ -274,7 +302,7 @@ fn canceled(record: &Record, size: u32) -> Option<Deed> {
 
 /// An order of which fewer shares stay open, or none as after a w.
 fn reduced(record: &Record, new_open: u32) -> Deed {
-    let decrement = open(record) - new_open;
+    let decrement = open_shares(record) - new_open;
     let [a, b, c, d] = decrement.to_be_bytes();
     Deed {
         state: if new_open == 0 { b'D' } else { b'L' },
@@ -287,8 +315,13 @@ fn reduced(record: &Record, new_open: u32) -> Deed {
     }
 }
 
-/// The open shares of a sound record.
-fn open(record: &Record) -> u32 {
+/// Whether a used record's order is live.
+pub fn live(record: &Record) -> bool {
+    record[0] == b'L'
+}
+
+/// The open shares of a sound order; a dead one has none.
+pub fn open_shares(record: &Record) -> u32 {
     number(record, 16) - number(record, 20) - number(record, 24)
 }
 
@@ -320,28 +353,52 @@ fn message(stamp: &Stamp, record: &Record, deed: &Deed) -> [u8; SENT_LEN] {
     message
 }
 
-/// Writes what a deed changes of its record.
-fn write(record: &mut Record, deed: &Deed) {
+/// Writes what a deed changes of its record, and of what the table counts: where the order is dead
+/// now its bit goes, and the sum is what it was but for this order.
+fn write(table: &mut [u8], place: usize, deed: &Deed) {
+    let bits = HEADER_LEN + RECORD_LEN * room(table.len());
+    let (records, _) = table[HEADER_LEN..].as_chunks_mut();
+    let record: &mut Record = &mut records[place];
+    let before = open_shares(record);
     record[0] = deed.state;
     record[15] = deed.side;
     record[16..20].copy_from_slice(&deed.liable.to_be_bytes());
     record[64] = deed.flags;
+    let after = open_shares(record);
+    if !live(record) {
+        table[bits + place / A_BYTE] &= !(1 << (place % A_BYTE));
+    }
+    let header: &mut Header = table
+        .first_chunk_mut()
+        .expect("a judged table has a header");
+    let sum = number(header, SUM) - before + after;
+    header[SUM..].copy_from_slice(&sum.to_be_bytes());
 }
 
-/// The header and the records, where the length is a header's and some whole records'.
-fn split(table: &[u8]) -> Option<(&Header, &[Record])> {
-    let (header, records) = table.split_first_chunk()?;
-    match records.as_chunks() {
-        (records, []) => Some((header, records)),
-        _ => None,
-    }
+/// The table's parts, where its length is that of 1 to 800 records.
+pub fn split(table: &[u8]) -> Option<Parts<'_>> {
+    let (header, rest) = table.split_first_chunk()?;
+    let count = room(table.len());
+    let (records, bits) = rest.split_at(RECORD_LEN * count);
+    let right = (1..=MOST_RECORDS).contains(&count) && bits.len() == count.div_ceil(A_BYTE);
+    let (records, _) = records.as_chunks();
+    right.then_some(Parts {
+        header,
+        records,
+        bits,
+    })
+}
+
+/// How many records a table of so many bytes has room for, each with its bit.
+pub fn room(table_len: usize) -> usize {
+    let body = table_len.saturating_sub(HEADER_LEN);
+    A_BYTE * body / (A_BYTE * RECORD_LEN + 1)
 }
 
 fn header_sound(header: &Header) -> bool {
     let (firms, count) = (firms(header), usize::from(header[1]));
     header[0] <= 2
         && (1..=firms.len()).contains(&count)
-        && header[2] == 0
         // The bits of blocked firms; with eight firms none is past the count.
         && u32::from(header[3]) >> count == 0
         && long_number(header, 8) < DAY_NANOS
@@ -349,7 +406,6 @@ fn header_sound(header: &Header) -> bool {
         && (1..=HIGHEST_THRESHOLD).contains(&number(header, 24))
         && firms[..count].iter().all(firm_shaped)
         && firms[count..].iter().all(|place| *place == [0; 4])
-        && header[60..64] == [0; 4]
 }
 
 /// The places for firms, of which only so many as the count says hold one.
@@ -388,7 +444,7 @@ fn legal_character(byte: &u8) -> bool {
 }
 
 /// Four bytes of an array as a number; the places are constants, so nothing is left to check.
-fn number<const N: usize>(bytes: &[u8; N], at: usize) -> u32 {
+pub fn number<const N: usize>(bytes: &[u8; N], at: usize) -> u32 {
     let mut four = [0; 4];
     four.copy_from_slice(&bytes[at..at + 4]);
     u32::from_be_bytes(four)
@@ -407,8 +463,8 @@ mod tests {
     use second::tapes::{Chance, Tapes, damage, good_list, sound_table};
     use second::{Host, Told};
 
-    use super::{judge, step};
-    use crate::scene::Scene;
+    use super::{SUM, judge, step};
+    use crate::scene::{Passed, Scene};
 
     /// Where a table's second record has its state, its shares and its flags.
     const STATE: usize = 64 + 80;
@@ -439,11 +495,12 @@ mod tests {
             table[28..28 + 4 * usize::from(count)].fill(b'A');
             for byte in 0..=255 {
                 let bits_of_firms = u32::from(byte) < 1 << count;
-                for (place, right) in [(2, byte == 0), (3, bits_of_firms)] {
+                for (place, right) in [(2, byte == 1), (3, bits_of_firms)] {
+                    let before = table[place];
                     table[place] = byte;
                     assert_eq!(judge(&table), right);
                     assert_eq!(Host::load(&table).is_some(), right);
-                    table[place] = 0;
+                    table[place] = before;
                 }
             }
         }
@@ -533,14 +590,21 @@ mod tests {
         (told.answer, sent, scene.table[STATE])
     }
 
+    /// The scene in the table of two records that both of its orders, which are live, would have.
+    fn in_two_records(mut scene: Scene) -> Scene {
+        scene.table.truncate(64 + 2 * 80);
+        scene.table.push(0b11);
+        scene
+    }
+
     /// 500 shares of which 100 are executed and 50 self-matched: sizes below 450 would leave less than
-    /// the 350 that are open, and those up to 100 nothing.
+    /// the 350 that are open, and those up to 100 nothing. The other order has 500.
     #[test]
     fn cancels_to_every_size_under_all_flags() {
-        let mut scene = Scene::to_cancel(2);
-        scene.table.truncate(64 + 2 * 80);
+        let mut scene = in_two_records(Scene::to_cancel(2));
         let shares = [500_u32, 100, 50].map(u32::to_be_bytes);
         scene.table[SHARES..SHARES + 12].copy_from_slice(shares.as_flattened());
+        scene.table[SUM..64].copy_from_slice(&850_u32.to_be_bytes());
         for size in (0..=501).chain([u32::MAX]) {
             for flags in 0..=255 {
                 let (answer, sent, state, len) = match (size, flags & 7) {
@@ -564,8 +628,7 @@ mod tests {
     /// stands past the firms is no firm, and a blank one isn't the default's.
     #[test]
     fn purges_under_all_flags() {
-        let mut scene = Scene::to_purge(2);
-        scene.table.truncate(64 + 2 * 80);
+        let scene = in_two_records(Scene::to_purge(2, &Passed::THOUGH_LIVE));
         let wishes: [(&[u8; 12], u8); 7] = [
             (b"ABCDIBM     ", 0),
             (b"ABCD        ", 0),

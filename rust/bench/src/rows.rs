@@ -1,5 +1,9 @@
 //! The rows of the benchmark: each measures a proved function beside plain Rust in one race.
 
+mod counted;
+
+pub use counted::{conversion, statuses};
+
 use std::collections::VecDeque;
 use std::hint::black_box;
 use std::time::Duration;
@@ -10,7 +14,7 @@ use second::{Host, Outbox, Stocks};
 use crate::plain;
 use crate::race::{CALLS, race, timed};
 use crate::ring;
-use crate::scene::{Scene, long_list};
+use crate::scene::{Passed, Scene, long_list};
 #[cfg(weighed)]
 use crate::{find, list, scales, scene::Alike, search};
 
@@ -89,16 +93,24 @@ pub fn cancels(used: usize) -> Vec<Row> {
     ]
 }
 
-/// A w whose order is the last of so many.
+/// A w whose order is the last of so many. By hand the records are walked over.
 pub fn purge(used: usize) -> Row {
-    let what = format!("purge, {used} used");
-    beside_the_same_job(&what, &Scene::to_purge(used), claim_for(used))
+    let scene = Scene::to_purge(used, &Passed::FOR_ALL_REASONS);
+    beside_the_same_job(&format!("purge, {used} used"), &scene, claim_for(used))
 }
 
-/// A w that finds none left among so many, and is ignored.
-pub fn purge_of_none(used: usize) -> Row {
-    let what = format!("purge, {used} used, none left");
-    beside_the_same_job(&what, &Scene::purged(used), claim_for(used))
+/// The same among so many orders of which all the others are dead or all are live, and one that finds
+/// none left and is ignored.
+pub fn purges(used: usize) -> [Row; 3] {
+    let scenes = [
+        ("all others dead", Scene::to_purge(used, &Passed::AS_DEAD)),
+        ("all live", Scene::to_purge(used, &Passed::THOUGH_LIVE)),
+        ("none left", Scene::purged(used)),
+    ];
+    scenes.map(|(which, scene)| {
+        let what = format!("purge, {used} used, {which}");
+        beside_the_same_job(&what, &scene, claim_for(used))
+    })
 }
 
 /// What is claimed of a table that is judged; with one record there is next to nothing to judge and
@@ -129,9 +141,14 @@ pub fn weighed(used: &[usize]) -> Vec<Row> {
     // In a table of one record every token is found at once.
     let searched = used.iter().copied().filter(|&used| used > 1);
     let searches = searched.flat_map(searches_alone);
+    let nexts = used
+        .last()
+        .copied()
+        .into_iter()
+        .flat_map(counted::next_orders);
     let lists = [judge_alone(), find_alone()];
-    let rows = sounds.chain(searches).chain(lists).chain(put_alone());
-    rows.collect()
+    let rows = sounds.chain(searches).chain(nexts).chain(lists);
+    rows.chain(put_alone()).collect()
 }
 
 #[cfg(weighed)]
@@ -142,7 +159,7 @@ fn sound_alone(used: usize) -> Row {
         &mut || timed(|| assert!(black_box(plain::judge(black_box(&table))))),
     ]);
     let what = format!("sound, {used} used");
-    let claim = claim_for(used);
+    let claim = (used > 1).then_some(0.5);
     Row::new(&what, proved, "plain, judged alike", other, claim)
 }
 

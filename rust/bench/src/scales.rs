@@ -4,9 +4,18 @@
 
 use pilaqsevi::{Marks, SYMBOL_SIZE};
 
+use crate::next::ALL_SYMBOLS;
+
 unsafe extern "C" {
     fn pq_sound(table: *const u8, table_len: usize) -> u8;
     fn pq_find(table: *const u8, table_len: usize, token: *const [u8; 14]) -> usize;
+    fn pq_find_wanted(
+        table: *const u8,
+        table_len: usize,
+        firm: *const [u8; 4],
+        symbol: *const [u8; SYMBOL_SIZE],
+        by_stock: u8,
+    ) -> usize;
     fn pq_put(
         ring: *mut u8,
         ring_len: usize,
@@ -35,6 +44,15 @@ pub fn find(table: &[u8], token: &[u8; 14]) -> usize {
     // SAFETY: the pointer comes with its slice's length, the token has its fourteen bytes, and the
     // function keeps neither.
     unsafe { pq_find(table.as_ptr(), table.len(), token) }
+}
+
+/// The place of the first order of a firm and a symbol that a w cancels; the number of used records
+/// where there is none.
+pub fn find_wanted(table: &[u8], firm: &[u8; 4], symbol: &[u8; SYMBOL_SIZE]) -> usize {
+    let by_stock = u8::from(*symbol != ALL_SYMBOLS);
+    // SAFETY: the pointer comes with its slice's length, firm and symbol have their bytes, and the
+    // function keeps none.
+    unsafe { pq_find_wanted(table.as_ptr(), table.len(), firm, symbol, by_stock) }
 }
 
 /// Whether the list of stocks is good.

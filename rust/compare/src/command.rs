@@ -6,6 +6,8 @@ use pilaqsevi::Marks;
 
 /// The firm places of a fresh command.
 const FIRM_PLACES: usize = 8;
+/// Tables, rings and lists up to this length are shown whole.
+const SHOWN: usize = 1_024;
 
 /// One command.
 #[derive(Clone, Debug, PartialEq, Eq)]
@@ -28,6 +30,10 @@ pub enum Command {
     Echo(Echo),
     /// Makes an entry of a message.
     Make(Making),
+    /// Asks for the live orders and their open shares.
+    Status,
+    /// Rebuilds a table of the old form.
+    Convert(Conversion),
 }
 
 /// What a fresh call is given. The count may be above the places, which is a bad setting.
@@ -58,6 +64,13 @@ pub struct Making {
     pub fill: u8,
 }
 
+/// A table of the old form, and the bytes of the second buffer.
+#[derive(Clone, Debug, PartialEq, Eq)]
+pub struct Conversion {
+    pub old: Vec<u8>,
+    pub into: Vec<u8>,
+}
+
 /// A command in one line: its name, and what it was given. Tables, rings and lists are told with
 /// the desk.
 impl Display for Command {
@@ -78,6 +91,8 @@ impl Display for Command {
             Command::Read => write!(f, "read"),
             Command::Echo(echo) => write!(f, "{echo}"),
             Command::Make(making) => write!(f, "{making}"),
+            Command::Status => write!(f, "status"),
+            Command::Convert(conversion) => write!(f, "{conversion}"),
         }
     }
 }
@@ -103,6 +118,21 @@ impl Display for Making {
         let Making { out_len, fill, .. } = self;
         write!(f, "into {out_len} bytes of {fill:02x}")
     }
+}
+
+impl Display for Conversion {
+    fn fmt(&self, f: &mut Formatter) -> fmt::Result {
+        let (old, len) = (shown(&self.old), self.into.len());
+        write!(f, "convert {old} into {len} bytes")
+    }
+}
+
+/// Bytes in digits, where they aren't too many to be read.
+pub fn shown(bytes: &[u8]) -> String {
+    if bytes.len() > SHOWN {
+        return format!("{} bytes", bytes.len());
+    }
+    hex(bytes)
 }
 
 /// Bytes as two digits each.

@@ -2,8 +2,8 @@
 
 use pilaqsevi::Marks;
 
-use crate::command::{Command, Making, Settings};
-use crate::host::{Host, Told};
+use crate::command::{Command, Conversion, Making, Settings};
+use crate::host::{Host, Status, Told};
 
 /// What stands between commands; at the start there is nothing. The door's own desk is always
 /// right, and this one may be damaged.
@@ -53,6 +53,8 @@ impl Desk {
                 left.extend(out);
             }
             Command::Make(making) => made(host, making, left),
+            Command::Status => tell_status(host.status(&self.table), left),
+            Command::Convert(conversion) => converted(host, conversion, left),
         }
     }
 
@@ -91,6 +93,22 @@ fn made(host: &impl Host, making: &Making, left: &mut Vec<u8>) {
     let mut out = vec![making.fill; making.out_len];
     tell(host.entry(*purge, *stamp, message, &mut out), left);
     left.extend(out);
+}
+
+/// Has the host convert a table, and appends what that left in the second buffer.
+fn converted(host: &impl Host, conversion: &Conversion, left: &mut Vec<u8>) {
+    let Conversion { old, into } = conversion;
+    let mut into = into.clone();
+    left.push(host.convert(old, &mut into));
+    left.extend(into);
+}
+
+/// The answer and both numbers, each in eight bytes.
+fn tell_status(status: Status, left: &mut Vec<u8>) {
+    left.push(status.answer);
+    for number in [status.live, status.open] {
+        left.extend((number as u64).to_be_bytes());
+    }
 }
 
 /// The answer, and the place in eight bytes.

@@ -3,11 +3,11 @@
 use std::error::Error;
 use std::fmt::{self, Display, Formatter};
 
-use crate::command::{Command, hex};
-use crate::desk::Desk;
+use second::tapes::counts::{old_len, room};
 
-/// Tables, rings and lists up to this length are shown whole.
-const SHOWN: usize = 1_024;
+use crate::command::{Command, shown};
+use crate::desk::Desk;
+use crate::records::{HEADER_LEN, RECORD_LEN};
 
 /// A command that left something else than expected.
 #[derive(Debug)]
@@ -57,27 +57,37 @@ impl Difference {
             (Command::Read, 0..4) => "the run's length".into(),
             (Command::Read, _) => format!("the run, byte {}", place - 4),
             (_, 0) => "the answer".into(),
-            (Command::Fresh(_), _) => in_table(place - 1),
+            (Command::Fresh(_), _) => in_table(table, place - 1),
+            (Command::Convert(conversion), _) => {
+                let made = in_table(conversion.into.len(), place - 1);
+                format!("{made}, in the second buffer")
+            }
+            (Command::Status, 1..9) => "the number of live orders".into(),
+            (Command::Status, _) => "the sum of open shares".into(),
             (Command::Release(_), 1..9) | (Command::Step(_), 9..17) => "the read place".into(),
             (Command::Release(_), _) | (Command::Step(_), 17..25) => "the held count".into(),
             (_, 1..9) => "the place of the bad byte".into(),
             (Command::Echo(_), _) => format!("the written message, byte {}", place - 9),
             (Command::Make(_), _) => format!("the made entry, byte {}", place - 9),
-            (_, _) if place - 25 < table => in_table(place - 25),
+            (_, _) if place - 25 < table => in_table(table, place - 25),
             (_, _) if place - 25 - table < ring => format!("the ring, byte {}", place - 25 - table),
             (_, _) => in_stocks(place - 25 - table - ring),
         }
     }
 }
 
-/// A place of the table as the paper counts it.
-fn in_table(place: usize) -> String {
-    match place.checked_sub(64) {
+/// A place of a table of so many bytes, as the paper counts it.
+fn in_table(len: usize, place: usize) -> String {
+    let bits_at = old_len(room(len));
+    if let Some(byte) = place.checked_sub(bits_at) {
+        return format!("the bits behind the records, byte {byte}");
+    }
+    match place.checked_sub(HEADER_LEN) {
         None => format!("the table's header, byte {place}"),
         Some(records) => format!(
             "record {} of the table, byte {}",
-            records / 80,
-            records % 80
+            records / RECORD_LEN,
+            records % RECORD_LEN
         ),
     }
 }
@@ -98,11 +108,4 @@ fn told(left: &[u8], place: usize) -> String {
         (Some(first), None) => format!("nothing more (answer or first byte {first})"),
         (None, _) => "nothing".into(),
     }
-}
-
-fn shown(bytes: &[u8]) -> String {
-    if bytes.len() > SHOWN {
-        return format!("{} bytes", bytes.len());
-    }
-    hex(bytes)
 }

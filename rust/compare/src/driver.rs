@@ -4,7 +4,10 @@
 //! so tight that entries are blocked, and a list of stocks, most of which trade; between its entries
 //! the desk is read and released, damaged and mended.
 
+mod counts;
+
 use pilaqsevi::Marks;
+use second::tapes::counts::table_len;
 use second::tapes::{
     Chance, Tapes, damage, good_list, message, request, settings, sound_table, worn_out,
 };
@@ -14,7 +17,6 @@ use crate::desk::Desk;
 use crate::difference::Difference;
 use crate::host::Second;
 use crate::meant::Meant;
-use crate::records::{HEADER_LEN, RECORD_LEN};
 use crate::sinks::Sink;
 use crate::tally::Tally;
 
@@ -81,6 +83,7 @@ impl<S: Sink> Driver<S> {
             }
             let entry = self.next_entry(&mut tapes);
             let answer = self.offer(entry)?;
+            self.status()?;
             refused_in_a_row = if answer == DONE {
                 0
             } else {
@@ -116,6 +119,7 @@ impl<S: Sink> Driver<S> {
             9 => self.fresh_aside(),
             10..=34 => self.echo(),
             35..=46 => self.make(),
+            47..=54 => self.convert(),
             _ => Ok(()),
         }
     }
@@ -124,8 +128,10 @@ impl<S: Sink> Driver<S> {
     fn lay_table(&mut self) -> Told<()> {
         let records = match self.chance.below(300) {
             0 => MOST_RECORDS,
-            1..=3 => 9 + self.chance.place(32),
-            4..=29 => 6 + self.chance.place(3),
+            // More than one byte of bits, and as often as not just so many.
+            1..=4 => self.chance.pick(&[9, 15, 16, 17, 24, 25]),
+            5..=8 => 9 + self.chance.place(32),
+            9..=29 => 6 + self.chance.place(3),
             _ => 1 + self.chance.place(5),
         };
         if self.chance.one_in(2) {
@@ -133,7 +139,7 @@ impl<S: Sink> Driver<S> {
             self.give(&Command::Table(table))?;
             return Ok(());
         }
-        let table = self.junk(HEADER_LEN + RECORD_LEN * records);
+        let table = self.junk(table_len(records));
         self.give(&Command::Table(table))?;
         while self.fresh()? != DONE {}
         Ok(())
@@ -166,6 +172,7 @@ impl<S: Sink> Driver<S> {
     fn fresh_aside(&mut self) -> Told<()> {
         let kept = self.desk.table.clone();
         if self.fresh()? == DONE {
+            self.status()?;
             self.give(&Command::Table(kept))?;
         }
         Ok(())
@@ -274,6 +281,7 @@ impl<S: Sink> Driver<S> {
         let mut spoilt = kept.clone();
         damage::table(&mut self.chance, &mut spoilt);
         self.give(&Command::Table(spoilt))?;
+        self.status()?;
         if self.chance.one_in(8) {
             self.fresh()?;
         }
@@ -413,12 +421,17 @@ impl<S: Sink> Driver<S> {
         };
         self.desk.obey(&Second, command, &mut self.expected);
         self.tally.count(command, &self.expected);
+        if *command == Command::Status {
+            self.tally.count_found(&self.desk.table);
+        }
         self.sink.take(command, &self.expected)?;
         let answer = self.expected.first().copied().unwrap_or(DONE);
         if let Some((entry, meant)) = offered {
             self.tally.count_meant(entry, &meant, answer);
             if answer == DONE {
                 self.tally.count_done(entry, &self.desk.sent_since(held));
+                self.tally
+                    .count_bits(entry, &meant.counts, &self.desk.table);
             }
         }
         Ok(answer)

@@ -1,7 +1,7 @@
-//! A host as the comparison sees it: six calls over bytes, and the two hosts that have them.
+//! A host as the comparison sees it: eight calls over bytes, and the two hosts that have them.
 
 use pilaqsevi::{Answer, Marks};
-pub use second::Told;
+pub use second::{Status, Told};
 
 /// The paper's calls; an answer is the paper's number, and a step, an echo and the making of an entry
 /// tell a place with it.
@@ -19,6 +19,8 @@ pub trait Host {
     fn release(&self, ring_len: usize, marks: &mut Marks, k: usize) -> u8;
     fn echo(&self, inbound: bool, message: &[u8], out: &mut [u8]) -> Told;
     fn entry(&self, purge: bool, stamp: u64, message: &[u8], out: &mut [u8]) -> Told;
+    fn convert(&self, old: &[u8], table: &mut [u8]) -> u8;
+    fn status(&self, table: &[u8]) -> Status;
 }
 
 /// The second host, which says what is right.
@@ -54,6 +56,14 @@ impl Host for Second {
 
     fn entry(&self, purge: bool, stamp: u64, message: &[u8], out: &mut [u8]) -> Told {
         second::entry(purge, stamp, message, out)
+    }
+
+    fn convert(&self, old: &[u8], table: &mut [u8]) -> u8 {
+        second::convert(old, table)
+    }
+
+    fn status(&self, table: &[u8]) -> Status {
+        second::status(table)
     }
 }
 
@@ -97,6 +107,26 @@ impl Host for Proved {
 
     fn entry(&self, purge: bool, stamp: u64, message: &[u8], out: &mut [u8]) -> Told {
         told(pilaqsevi::entry(purge, stamp, message, out))
+    }
+
+    fn convert(&self, old: &[u8], table: &mut [u8]) -> u8 {
+        pilaqsevi::convert(old, table).number()
+    }
+
+    fn status(&self, table: &[u8]) -> Status {
+        match pilaqsevi::status(table) {
+            Ok(pilaqsevi::Status { live, open }) => Status {
+                answer: Answer::Done.number(),
+                live,
+                open,
+            },
+            // Where it is refused, the door has seen to it that both numbers were 0.
+            Err(answer) => Status {
+                answer: answer.number(),
+                live: 0,
+                open: 0,
+            },
+        }
     }
 }
 

@@ -7,9 +7,11 @@
 #![forbid(unsafe_code)]
 
 mod alike;
+mod bits;
 mod blocks;
 mod cancels;
 mod command;
+mod conversions;
 mod counts;
 mod desk;
 mod difference;
@@ -19,12 +21,13 @@ mod meant;
 mod purges;
 pub mod records;
 mod sinks;
+mod statuses;
 mod tally;
 
-pub use command::{Command, Echo, Making, Settings};
+pub use command::{Command, Conversion, Echo, Making, Settings};
 pub use desk::Desk;
 pub use difference::Difference;
 pub use driver::Driver;
-pub use host::{Host, Proved, Second, Told};
+pub use host::{Host, Proved, Second, Status, Told};
 pub use sinks::{Beside, Sink};
 pub use tally::Tally;

@@ -1,6 +1,7 @@
 //! What an entry means at the table that it is offered to, looked at before the step changes that.
 
 use crate::alike::Alike;
+use crate::bits::Counts;
 use crate::blocks::Block;
 use crate::cancels::Cancel;
 use crate::purges::Purge;
@@ -12,6 +13,7 @@ pub struct Meant {
     pub cancel: Option<Cancel>,
     pub purge: Option<Purge>,
     pub block: Option<Block>,
+    pub counts: Counts,
 }
 
 impl Meant {
@@ -22,6 +24,7 @@ impl Meant {
             cancel: Cancel::of(entry, table),
             purge: Purge::of(entry, table),
             block: Block::of(entry, table),
+            counts: Counts::of(table),
         }
     }
 }

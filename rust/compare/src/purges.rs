@@ -19,8 +19,11 @@ const ALL: &[u8] = b"        ";
 const OPEN: u8 = 1;
 const LATE: u8 = 1;
 
+/// How many records share a byte of bits.
+const A_BYTE: usize = 8;
+
 /// What is counted: the w, and what each passed over, which may be several of these.
-const COUNTED: [&str; 8] = [
+const COUNTED: [&str; 10] = [
     "in all",
     "in all symbols",
     "past late orders",
@@ -28,6 +31,8 @@ const COUNTED: [&str; 8] = [
     "past other symbols",
     "past other firms",
     "past an equal token",
+    "past a whole byte of bits",
+    "past an empty one",
     "on a day that isn't open",
 ];
 
@@ -87,6 +92,10 @@ impl Purge {
             past(|seen| seen.live && seen.of_firm && !seen.in_symbol),
             past(|seen| seen.live && !seen.of_firm && seen.in_symbol),
             passed.iter().any(|seen| Some(seen.token) == token),
+            passed.len() >= A_BYTE,
+            passed
+                .chunks_exact(A_BYTE)
+                .any(|byte| byte.iter().all(|seen| !seen.live)),
             table.first() != Some(&OPEN),
         ]))
     }

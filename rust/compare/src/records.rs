@@ -2,7 +2,9 @@
 
 use std::ops::Range;
 
-/// A table's bytes without its records, and a record's.
+use second::tapes::counts::room;
+
+/// The bytes of a header and of a record.
 pub const HEADER_LEN: usize = 64;
 pub const RECORD_LEN: usize = 80;
 /// Where a record has its token.
@@ -12,7 +14,9 @@ const TOKEN: Range<usize> = 1..15;
 pub fn used_records(table: &[u8]) -> impl Iterator<Item = &[u8]> {
     let used = number(table.get(4..8).unwrap_or_default()) as usize;
     let records = table.get(HEADER_LEN..).unwrap_or_default();
-    records.chunks_exact(RECORD_LEN).take(used)
+    // Behind the last record there are bits, which are none.
+    let records = records.chunks_exact(RECORD_LEN).take(room(table.len()));
+    records.take(used)
 }
 
 /// Where the first used record of this token begins.

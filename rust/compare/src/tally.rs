@@ -1,17 +1,21 @@
 //! A tally of a script: how many calls of each kind, how often each answer was right, at how many
 //! places a byte was bad, what was done, ignored and rejected, how often tokens were nearly alike, to
-//! what sizes orders with self-matched shares were cancelled, and what purges and blocks found.
+//! what sizes orders with self-matched shares were cancelled, what purges and blocks found, what became
+//! of the bits and the sum, and what statuses and conversions found.
 
 use std::collections::{BTreeMap, BTreeSet};
 use std::fmt::{self, Display, Formatter};
 
 use crate::alike::Alike;
+use crate::bits::{Bits, Counts};
 use crate::blocks::Blocks;
 use crate::cancels::Sizes;
 use crate::command::Command;
+use crate::conversions::Conversions;
 use crate::counts::listed;
 use crate::meant::Meant;
 use crate::purges::Purges;
+use crate::statuses::{Found, Statuses};
 
 /// The answers that a call can give, and the one that has a place.
 const ANSWERS: usize = 16;
@@ -29,6 +33,8 @@ pub struct Tally {
     pub releases: [u64; ANSWERS],
     pub echoes: [u64; ANSWERS],
     pub makings: [u64; ANSWERS],
+    pub statuses: [u64; ANSWERS],
+    pub conversions: [u64; ANSWERS],
     pub reads: u64,
     /// The bad bytes that steps told, each by the entry's kind and its place.
     pub entry_places: BTreeSet<(u8, u64)>,
@@ -56,6 +62,11 @@ pub struct Tally {
     pub vain_purges: Purges,
     /// What d and n set and cleared, and what that did to orders.
     pub blocks: Blocks,
+    /// What done entries did to the bits and the sum.
+    pub bits: Bits,
+    /// What statuses found in damaged tables, and what there was to convert.
+    pub found: Statuses,
+    pub converted: Conversions,
     /// What the calls left in all, every byte of which was compared.
     pub bytes: u64,
 }
@@ -86,6 +97,11 @@ impl Tally {
                     self.making_places.insert((making.purge, letter, place));
                 }
             }
+            Command::Status => self.statuses[answer] += 1,
+            Command::Convert(conversion) => {
+                self.conversions[answer] += 1;
+                self.converted.count(conversion, answer as u8);
+            }
             Command::Read => self.reads += 1,
             Command::Table(_) | Command::Ring { .. } | Command::Stocks(_) => {}
         }
@@ -99,6 +115,18 @@ impl Tally {
             let what = format!("{kind} {}", char::from(*reason));
             *self.rejects.entry(what).or_default() += 1;
         }
+    }
+
+    /// Counts what a done entry did to the bits and the sum.
+    pub fn count_bits(&mut self, entry: &[u8], before: &Counts, table: &[u8]) {
+        if let Some(&kind) = entry.first() {
+            self.bits.count(kind, before, &Counts::of(table));
+        }
+    }
+
+    /// Counts what a status finds in this table.
+    pub fn count_found(&mut self, table: &[u8]) {
+        self.found.count(&Found::in_table(table));
     }
 
     /// Counts what an entry meant that was answered so. A blocked one comes again, and is counted for
@@ -135,6 +163,31 @@ impl Tally {
         self.apart_at.extend(&alike.apart_at);
     }
 
+    /// Writes what was found where entries and statuses looked, and what there was to convert.
+    fn fmt_found(&self, f: &mut Formatter) -> fmt::Result {
+        write!(
+            f,
+            "tokens alike (in front: {}, at the end: {}, but for one: {} at {} places), ",
+            self.alike_in_front,
+            self.alike_at_the_end,
+            self.alike_but_for_one,
+            self.apart_at.len()
+        )?;
+        write!(
+            f,
+            "cancels after self matches ({}), late ones ({}), purges ({}), with none left ({}), \
+             blocks ({}), bits ({}), damage under a status ({}), tables to convert ({}), ",
+            self.cancels,
+            self.late_cancels,
+            self.purges,
+            self.vain_purges,
+            self.blocks,
+            self.bits,
+            self.found,
+            self.converted
+        )
+    }
+
     /// How many entries were offered, blocked ones counted each time.
     pub fn entries(&self) -> u64 {
         self.steps.iter().sum()
@@ -156,6 +209,8 @@ impl Display for Tally {
             ("releases", &self.releases, 0),
             ("echoes", &self.echoes, self.message_places.len()),
             ("entries made", &self.makings, self.making_places.len()),
+            ("statuses", &self.statuses, 0),
+            ("conversions", &self.conversions, 0),
         ] {
             let calls: u64 = answers.iter().sum();
             write!(f, "{calls} {what} ({}), ", by_answer(answers, places))?;
@@ -169,20 +224,7 @@ impl Display for Tally {
             let counts = counts.iter().map(|(what, &count)| (what, count));
             write!(f, "{what} ({}), ", listed(counts))?;
         }
-        write!(
-            f,
-            "tokens alike (in front: {}, at the end: {}, but for one: {} at {} places), ",
-            self.alike_in_front,
-            self.alike_at_the_end,
-            self.alike_but_for_one,
-            self.apart_at.len()
-        )?;
-        write!(
-            f,
-            "cancels after self matches ({}), late ones ({}), purges ({}), with none left ({}), \
-             blocks ({}), ",
-            self.cancels, self.late_cancels, self.purges, self.vain_purges, self.blocks
-        )?;
+        self.fmt_found(f)?;
         write!(f, "{} bytes compared", self.bytes)
     }
 }

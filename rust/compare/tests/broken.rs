@@ -6,7 +6,7 @@
 use std::cell::Cell;
 
 use compare::records::{HEADER_LEN, RECORD_LEN, number, row};
-use compare::{Beside, Difference, Driver, Host, Proved, Second, Told};
+use compare::{Beside, Difference, Driver, Host, Proved, Second, Status, Told};
 use pilaqsevi::Marks;
 use second::tapes::judged::{Field, Judged, of_entry, of_message};
 
@@ -331,6 +331,14 @@ impl Host for Broken {
 
     fn entry(&self, purge: bool, stamp: u64, message: &[u8], out: &mut [u8]) -> Told {
         Second.entry(purge, stamp, message, out)
+    }
+
+    fn convert(&self, old: &[u8], table: &mut [u8]) -> u8 {
+        Second.convert(old, table)
+    }
+
+    fn status(&self, table: &[u8]) -> Status {
+        Second.status(table)
     }
 }
 

@@ -9,6 +9,7 @@ use std::ops::Range;
 
 use compare::records::{RECORD_LEN, number, row};
 use compare::{Command, Desk, Difference, Second, Told};
+use second::tapes::counts::recount;
 
 /// Where things stand in entries, as the paper counts.
 const STAMP: Range<usize> = 1..9;
@@ -229,6 +230,7 @@ fn cancel(fault: Option<Fault>, desk: &mut Desk, entry: &[u8]) -> u8 {
     order.write(&mut desk.table[at..at + RECORD_LEN]);
     if answer == DONE {
         desk.table[8..16].copy_from_slice(&entry[STAMP]);
+        recount(&mut desk.table);
     }
     answer
 }
@@ -288,7 +290,7 @@ fn step(fault: Option<Fault>, desk: &mut Desk, entry: &[u8]) -> Told {
 
 /// The difference that a host shows, if any.
 fn difference(fault: Option<Fault>) -> Option<Box<Difference>> {
-    common::difference(|desk, entry| step(fault, desk, entry))
+    common::difference_in_steps(|desk, entry| step(fault, desk, entry))
 }
 
 /// Each is found out by an entry of the kind that it gets wrong.
@@ -318,8 +320,13 @@ fn a_difference_tells_where_it_is() {
     for (fault, part) in [
         (Fault::ComparesTheSizeWithLiable, "first in the answer"),
         (Fault::AsksForLateFirst, "first in the answer"),
-        // Liable's bytes are 16 to 19.
+        // Liable's bytes are 16 to 19, and the sum's 60 to 63: other shares that are open stand there
+        // first.
         (Fault::SetsLiableWithoutSelfMatched, " of the table, byte 1"),
+        (
+            Fault::TakesTheSizeForTheNewOpen,
+            "the table's header, byte 6",
+        ),
         (Fault::SetsTheFlagWhenIgnoring, " of the table, byte 64"),
         (Fault::TellsTheNewOpen, "first in the ring, byte"),
     ] {

@@ -2,12 +2,10 @@
 //!
 //! A broken host is the second host with a fault in this one call.
 
-use compare::{Beside, Command, Difference, Driver, Host, Second, Told};
-use pilaqsevi::Marks;
+mod common;
 
-/// The entries within which each fault must show.
-const ENTRIES: u64 = 20_000;
-const SEED: u64 = 3;
+use compare::{Command, Difference, Host, Second, Told};
+
 /// The first stamp that isn't legal.
 const DAY_END: u64 = 86_400_000_000_000;
 /// Where a request has what is judged, and a Mass Cancel's whole length.
@@ -177,34 +175,7 @@ fn refused(answer: u8) -> Told {
     Told { answer, place }
 }
 
-impl Host for Broken {
-    fn fresh(&self, table: &mut [u8], threshold: u32, firms: &[[u8; 4]]) -> u8 {
-        Second.fresh(table, threshold, firms)
-    }
-
-    fn step(
-        &self,
-        table: &mut [u8],
-        ring: &mut [u8],
-        marks: &mut Marks,
-        stocks: &mut [u8],
-        entry: &[u8],
-    ) -> Told {
-        Second.step(table, ring, marks, stocks, entry)
-    }
-
-    fn read<'a>(&self, ring: &'a [u8], marks: Marks) -> &'a [u8] {
-        Second.read(ring, marks)
-    }
-
-    fn release(&self, ring_len: usize, marks: &mut Marks, k: usize) -> u8 {
-        Second.release(ring_len, marks, k)
-    }
-
-    fn echo(&self, inbound: bool, message: &[u8], out: &mut [u8]) -> Told {
-        Second.echo(inbound, message, out)
-    }
-
+impl common::Broken for Broken {
     fn entry(&self, purge: bool, stamp: u64, message: &[u8], out: &mut [u8]) -> Told {
         match self.0 {
             Some(fault) => make(fault, purge, stamp, message, out),
@@ -215,7 +186,7 @@ impl Host for Broken {
 
 /// The difference that a host shows, if any.
 fn difference(fault: Option<Fault>) -> Option<Box<Difference>> {
-    Driver::drive(SEED, ENTRIES, Beside::new(Broken(fault))).err()
+    common::difference(Broken(fault))
 }
 
 #[test]

@@ -48,6 +48,11 @@ enum Fault {
     ComparesThreeOfTheFirm,
     IgnoresTheFirm,
     LooksFromTheLastRecord,
+    LooksAtTheFirstByteOnly,
+    StopsAtAnEmptyByte,
+    PassesOverTheHighestBit,
+    BeginsWithTheHighestBit,
+    LooksOnceAByte,
     GoesByTheTokensFirstRecord,
     StopsAfterTheFirstOfTheFirm,
     WantsAnOpenDay,
@@ -78,7 +83,7 @@ enum Fault {
     EndsTheOrderWhenBlocked,
 }
 
-const FAULTS: [Fault; 41] = [
+const FAULTS: [Fault; 46] = [
     Fault::CancelsLateOrders,
     Fault::StopsAtALateOrder,
     Fault::TakesEveryCrossForLate,
@@ -92,6 +97,11 @@ const FAULTS: [Fault; 41] = [
     Fault::ComparesThreeOfTheFirm,
     Fault::IgnoresTheFirm,
     Fault::LooksFromTheLastRecord,
+    Fault::LooksAtTheFirstByteOnly,
+    Fault::StopsAtAnEmptyByte,
+    Fault::PassesOverTheHighestBit,
+    Fault::BeginsWithTheHighestBit,
+    Fault::LooksOnceAByte,
     Fault::GoesByTheTokensFirstRecord,
     Fault::StopsAfterTheFirstOfTheFirm,
     Fault::WantsAnOpenDay,
@@ -182,6 +192,30 @@ fn meant_firm<'a>(fault: Option<Fault>, table: &'a [u8], entry: &'a [u8]) -> &'a
     }
 }
 
+/// Which of the records at these places this fault comes to first, if any. Some go along the bits of
+/// live orders wrongly, eight records a byte.
+fn finds(fault: Option<Fault>, records: &[&[u8]], places: &[usize]) -> Option<usize> {
+    let &first = places.first()?;
+    let none_live = |records: &[&[u8]]| records.iter().all(|record| record[0] != b'L');
+    let mut places = places.iter().copied();
+    match fault {
+        Some(Fault::LooksFromTheLastRecord) => places.next_back(),
+        Some(Fault::LooksAtTheFirstByteOnly) => Some(first).filter(|&first| first < 8),
+        Some(Fault::StopsAtAnEmptyByte) => {
+            let mut bytes = records[..first / 8 * 8].chunks(8);
+            (!bytes.any(none_live)).then_some(first)
+        }
+        Some(Fault::PassesOverTheHighestBit) => places.find(|place| place % 8 != 7),
+        Some(Fault::BeginsWithTheHighestBit) => {
+            places.take_while(|place| place / 8 == first / 8).last()
+        }
+        Some(Fault::LooksOnceAByte) => {
+            places.find(|&place| none_live(&records[place / 8 * 8..place]))
+        }
+        _ => Some(first),
+    }
+}
+
 /// The used record that this fault takes, if any.
 fn takes(fault: Option<Fault>, desk: &Desk, entry: &[u8]) -> Option<usize> {
     let records: Vec<&[u8]> = used_records(&desk.table).collect();
@@ -196,10 +230,8 @@ fn takes(fault: Option<Fault>, desk: &Desk, entry: &[u8]) -> Option<usize> {
         let passed_over = passes_over(fault, desk, record);
         live(record) && !passed_over && means(fault, &desk.table, entry, record)
     };
-    let place = match fault {
-        Some(Fault::LooksFromTheLastRecord) => records.iter().rposition(meant)?,
-        _ => records.iter().position(meant)?,
-    };
+    let places = (0..records.len()).filter(|&place| meant(&records[place]));
+    let place = finds(fault, &records, &places.collect::<Vec<_>>())?;
     let firm = &records[place][RECORD_FIRM];
     let stops = match fault {
         Some(Fault::StopsAtALateOrder) => records[place][FLAGS] & LATE != 0,
@@ -364,7 +396,7 @@ fn step(fault: Option<Fault>, desk: &mut Desk, entry: &[u8]) -> Told {
 
 /// The difference that a host shows, if any.
 fn difference(fault: Option<Fault>) -> Option<Box<Difference>> {
-    common::difference(|desk, entry| step(fault, desk, entry))
+    common::difference_in_steps(|desk, entry| step(fault, desk, entry))
 }
 
 #[test]
@@ -390,7 +422,9 @@ fn a_difference_tells_where_it_is() {
     for (fault, part) in [
         (Fault::IsIgnoredAfterTheClose, "first in the answer"),
         (Fault::WantsAnOpenDay, "first in the answer"),
-        (Fault::LooksFromTheLastRecord, " of the table, byte 0"),
+        // Another order has other shares.
+        (Fault::LooksFromTheLastRecord, "the table's header, byte 6"),
+        (Fault::LeavesTheOrderLive, " of the table, byte 0"),
         (Fault::BlocksTheFirmToo, "the table's header, byte 3"),
         (Fault::ClearsTheFlags, " of the table, byte 64"),
         (Fault::GivesAnotherReason, "first in the ring, byte"),

@@ -124,7 +124,7 @@ fn step(fault: Option<Fault>, desk: &mut Desk, entry: &[u8]) -> Told {
 
 /// The difference that a host shows, if any.
 fn difference(fault: Option<Fault>) -> Option<Box<Difference>> {
-    common::difference(|desk, entry| step(fault, desk, entry))
+    common::difference_in_steps(|desk, entry| step(fault, desk, entry))
 }
 
 #[test]

@@ -1,56 +1,19 @@
 //! Damaged tables, rings, marks, lists of stocks and entries, through the archive: both hosts
 //! answer alike, and what is refused changes nothing.
 
-use std::fmt::Write;
+mod four;
 
 use compare::{Desk, Host, Proved, Second};
+use four::{LAST_STAMP, PARTS, enter, listing, table};
 use pilaqsevi::Marks;
+use second::tapes::counts::{bits_at, recount, table_len};
 use second::tapes::{Chance, Tapes, damage, good_list, sound_table};
-
-/// The last stamp of a day: no legal last stamp is above it.
-const LAST_STAMP: u64 = 86_399_999_999_999;
 
 /// A list: of the first two only the last bytes of their symbols differ, and the third symbol is no
 /// stock's.
 const STOCKS: &[u8; 27] = b"IBM     TIBM    \x80H\x80\0 ib-  T";
-
-/// A table of four records: a live order, a dead one, a rejected token, and one that is unused.
-fn table() -> Vec<u8> {
-    let mut table = vec![0; 384];
-    assert_eq!(
-        Second.fresh(&mut table, 1_000_000, &[*b"ABCD", *b"E   "]),
-        0
-    );
-    for (place, state, executed) in [(0, b'L', 40), (1, b'D', 100), (2, b'R', 0)] {
-        let record = &mut table[64 + 80 * place..][..80];
-        record[0] = state;
-        record[1..15].copy_from_slice(&token(place));
-        if state != b'R' {
-            (record[15], record[19], record[23]) = (b'B', 100, executed);
-        }
-    }
-    table[7] = 3;
-    table
-}
-
-fn token(place: usize) -> [u8; 14] {
-    let mut token = [b'T'; 14];
-    token[13] += 1 + place as u8;
-    token
-}
-
-/// An Enter of a record's token. Of a table that isn't sound the answer is 10, and of a sound one
-/// it is 1 where the token is found and another where it isn't.
-fn enter(place: usize) -> Vec<u8> {
-    let stamp = LAST_STAMP.to_be_bytes();
-    [
-        b"O".as_slice(),
-        &stamp,
-        &token(place),
-        b"B\0\0\0\x01IBM     \0\0\0\x01\0\0\0\0ABCDYPN\0\0\0\0N",
-    ]
-    .concat()
-}
+/// Where a table has its sum.
+const SUM: std::ops::Range<usize> = 60..64;
 
 /// This table with an empty ring and a list of three stocks, of which the order's is one.
 fn desk_over(table: Vec<u8>) -> Desk {
@@ -63,73 +26,91 @@ fn desk_over(table: Vec<u8>) -> Desk {
 }
 
 /// What both hosts answer to an entry at this desk, with the same place; they leave every byte and
-/// mark alike, and a refusal changes none.
+/// mark alike, and a refusal changes none. The status is the same too.
 fn alike(proved: &Proved, desk: &Desk, entry: &[u8]) -> u8 {
     let (mut after, mut right) = (desk.clone(), desk.clone());
     let told = after.step(proved, entry);
     assert_eq!(told, right.step(&Second, entry), "{desk:?} {entry:?}");
     assert!(after == right, "{desk:?} {entry:?}");
     assert!(told.answer == 0 || after == *desk, "{desk:?} {entry:?}");
+    let status = proved.status(&after.table);
+    assert_eq!(status, Second.status(&after.table), "{desk:?} {entry:?}");
     told.answer
 }
 
-/// Of the 255 other values of the byte at this place, how many leave the table sound, and how many
-/// of those leave the record's token where it was.
-fn survivors(proved: &Proved, desk: &mut Desk, at: usize, entry: &[u8]) -> (usize, usize) {
-    let whole = desk.table[at];
-    let mut survivors = (0, 0);
-    for by in 1..=255 {
-        desk.table[at] = whole.wrapping_add(by);
-        let answer = alike(proved, desk, entry);
-        survivors.0 += usize::from(answer != 10);
-        survivors.1 += usize::from(answer == 1);
-    }
-    desk.table[at] = whole;
-    survivors
-}
-
-/// The counts are from the paper's list of what makes a table sound, byte by byte.
+/// The counts are from the paper's list of what makes a table sound, byte by byte. Where a record is
+/// damaged, the sum mostly tells.
 #[test]
 #[cfg_attr(not(archive), ignore = "no archive of the proved functions is linked")]
-fn each_byte_of_a_table_is_damaged_in_every_way() -> std::fmt::Result {
+fn each_byte_of_a_table_is_damaged_in_every_way() {
     let proved = Proved::linked().unwrap();
-    let mut desk = desk_over(table());
-    let mut listing = String::from("sound and found of 255 values a byte\n");
-    for (part, at, bytes, record) in [
-        ("header", 0, 64, 2),
-        ("live", 64, 80, 0),
-        ("dead", 144, 80, 1),
-        ("rejected", 224, 80, 2),
-    ] {
-        write!(listing, "{part}")?;
-        for place in at..at + bytes {
-            let line = (place - at) % 8 == 0;
-            let (sound, found) = survivors(&proved, &mut desk, place, &enter(record));
-            let before = if line {
-                format!("\n{place}:")
-            } else {
-                String::new()
-            };
-            write!(listing, "{before} {sound}/{found}")?;
-        }
-        writeln!(listing)?;
-    }
-    assert_eq!(listing, include_str!("damaged.txt"));
-    Ok(())
+    let whole = table();
+    let parts = [&PARTS[..], &[("bits", 384, 1, 0)]].concat();
+    let listing = listing(&whole, &parts, |place, byte, entry| {
+        let mut desk = desk_over(whole.clone());
+        desk.table[place] = byte;
+        alike(&proved, &desk, entry)
+    });
+    assert_eq!(listing, include_str!("counted.txt"));
 }
 
-/// Of all shorter lengths only the one without the unused record is a table.
+/// The same with bits and sum as the damaged records have them, so that these tell nothing: what is
+/// left to be judged is the old form's.
+#[test]
+#[cfg_attr(not(archive), ignore = "no archive of the proved functions is linked")]
+fn each_byte_of_a_table_that_is_counted_again_is_damaged_in_every_way() {
+    let proved = Proved::linked().unwrap();
+    let whole = table();
+    let listing = listing(&whole, &PARTS, |place, byte, entry| {
+        let mut desk = desk_over(whole.clone());
+        desk.table[place] = byte;
+        if !SUM.contains(&place) {
+            recount(&mut desk.table);
+        }
+        alike(&proved, &desk, entry)
+    });
+    assert_eq!(listing, include_str!("damaged.txt"));
+}
+
+/// Of all shorter lengths only the one without the unused record is a table, once its bits stand where
+/// they should.
 #[test]
 #[cfg_attr(not(archive), ignore = "no archive of the proved functions is linked")]
 fn a_cut_table_is_a_table_where_the_paper_says_so() {
     let proved = Proved::linked().unwrap();
     let whole = table();
-    let sound = |length: &usize| {
-        let desk = desk_over(whole[..*length].to_vec());
+    let sound = |table: &[u8]| {
+        let desk = desk_over(table.to_vec());
         alike(&proved, &desk, &enter(0)) != 10
     };
-    let lengths: Vec<usize> = (0..=whole.len()).filter(sound).collect();
-    assert_eq!(lengths, [304, 384]);
+    let lengths = (0..=whole.len()).filter(|&length| {
+        let mut cut = whole[..length].to_vec();
+        assert_eq!(sound(&cut), length == whole.len());
+        recount(&mut cut);
+        sound(&cut)
+    });
+    assert!(lengths.eq([305, 385]));
+}
+
+/// Each bit of the sum and behind the records, spare ones too, is the other one: no table is sound
+/// then, and the status counts on.
+#[test]
+#[cfg_attr(not(archive), ignore = "no archive of the proved functions is linked")]
+fn each_bit_is_turned() {
+    let proved = Proved::linked().unwrap();
+    let mut chance = Chance::new(5);
+    for records in (1..=33).chain([800]) {
+        let mut desk = desk_over(sound_table(&mut chance, records));
+        assert_ne!(alike(&proved, &desk, b""), 10);
+        let bits = bits_at(&desk.table).unwrap()..table_len(records);
+        for place in SUM.chain(bits) {
+            for bit in 0..8 {
+                desk.table[place] ^= 1 << bit;
+                assert_eq!(alike(&proved, &desk, b""), 10);
+                desk.table[place] ^= 1 << bit;
+            }
+        }
+    }
 }
 
 /// Of the 255 other values of each byte, how many leave the list good. The first symbol's bytes may

@@ -2,6 +2,7 @@
 //! any two judged bytes bad at once, beside the second host.
 
 use compare::{Desk, Host, Proved, Second, Told};
+use second::tapes::counts::table_len;
 use second::tapes::judged::{ENTRIES, of_entry, places};
 
 /// A legal stamp and token, which every kind but s, h, w, d and n opens with.
@@ -31,7 +32,7 @@ fn legal(kind: u8) -> Vec<u8> {
 
 /// What both hosts tell of an entry at a fresh desk.
 fn alike(proved: &Proved, entry: &[u8]) -> Told {
-    let mut table = vec![0; 144];
+    let mut table = vec![0; table_len(1)];
     assert_eq!(Second.fresh(&mut table, 1_000_000, &[*b"ABCD"]), 0);
     let desk = Desk {
         table,

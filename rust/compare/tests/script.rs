@@ -1,9 +1,11 @@
 //! Scripts: a seed repeats one, and it reaches everything.
 
 use std::collections::BTreeSet;
+use std::sync::LazyLock;
 
-use compare::{Command, Desk, Difference, Driver, Second, Sink};
+use compare::{Command, Desk, Difference, Driver, Second, Sink, Tally};
 use pilaqsevi::Marks;
+use second::tapes::counts::{room, table_len};
 use second::tapes::judged::{self, Field, places};
 
 /// All commands of a script.
@@ -57,6 +59,8 @@ impl Sink for &mut Seen {
             }
             Command::Fresh(_) => _ = self.what.insert(format!("F {answer}")),
             Command::Release(_) => _ = self.what.insert(format!("L {answer}")),
+            Command::Status => _ = self.what.insert(format!("T {answer}")),
+            Command::Convert(_) => _ = self.what.insert(format!("C {answer}")),
             Command::Read | Command::Table(_) | Command::Ring { .. } | Command::Stocks(_) => {}
         }
         Ok(())
@@ -72,7 +76,7 @@ impl Seen {
             return;
         }
         self.what
-            .insert(format!("records {}", (self.desk.table.len() - 64) / 80));
+            .insert(format!("records {}", room(self.desk.table.len())));
         let Marks { at, held } = self.before.marks;
         let len = self.desk.ring.len();
         let sent = self.desk.sent_since(held);
@@ -236,10 +240,13 @@ fn a_script_reaches_every_answer_message_and_reason() {
     ]
     .concat();
     wanted.extend("AUCDEJPITM".chars().map(|letter| format!("{letter} wraps")));
-    wanted.extend((1..=8).map(|records| format!("records {records}")));
-    wanted.extend(["records 800", "ring full"].map(String::from));
+    let records = (1..=9).chain([15, 16, 17, 24, 25, 800]);
+    wanted.extend(records.map(|records| format!("records {records}")));
+    wanted.push("ring full".into());
     wanted.extend([0, 3, 10].map(|answer| format!("F {answer}")));
     wanted.extend([0, 11, 12].map(|answer| format!("L {answer}")));
+    wanted.extend([0, 10].map(|answer| format!("T {answer}")));
+    wanted.extend([0, 10, 13].map(|answer| format!("C {answer}")));
     wanted.retain(|what| !seen.contains(what));
     assert!(wanted.is_empty(), "never seen: {wanted:?}");
 }
@@ -252,6 +259,9 @@ impl Sink for Unheard {
         Ok(())
     }
 }
+
+/// The tally of one script, for all tests that ask how often it does something.
+static TALLY: LazyLock<Tally> = LazyLock::new(|| Driver::drive(4, 100_000, Unheard).unwrap());
 
 /// Every byte of every kind, of every message and of every message made into an entry that can be
 /// told as bad: each character of a token, and the first byte of what is bad as a whole.
@@ -299,7 +309,7 @@ fn all_places<K: Copy + Ord>(
 /// Orders are mostly accepted as before, and yet often rejected for their stocks.
 #[test]
 fn a_script_rejects_often_and_does_more() {
-    let tally = Driver::drive(4, 100_000, Unheard).unwrap();
+    let tally = &*TALLY;
     let rejected: u64 = tally.rejects.values().sum();
     let done = tally.done["O"] + tally.done["U"];
     assert!(rejected < 2 * (done - rejected), "{tally}");
@@ -316,7 +326,7 @@ fn a_script_rejects_often_and_does_more() {
 /// wherever that stands.
 #[test]
 fn a_script_often_names_tokens_that_are_nearly_alike() {
-    let tally = Driver::drive(4, 100_000, Unheard).unwrap();
+    let tally = &*TALLY;
     assert!(tally.alike_in_front > 5_000, "{tally}");
     assert!(tally.alike_at_the_end > 5_000, "{tally}");
     assert!(tally.alike_but_for_one > 5_000, "{tally}");
@@ -327,7 +337,7 @@ fn a_script_often_names_tokens_that_are_nearly_alike() {
 /// turn if those shares counted, late ones among them.
 #[test]
 fn a_script_often_cancels_orders_with_self_matched_shares() {
-    let tally = Driver::drive(4, 100_000, Unheard).unwrap();
+    let tally = &*TALLY;
     assert!(tally.cancels.0.iter().all(|&count| count > 100), "{tally}");
     assert!(
         tally.late_cancels.0.iter().all(|&count| count > 20),
@@ -346,13 +356,13 @@ fn a_script_often_cancels_orders_with_self_matched_shares() {
 /// the right place of a firm listed twice.
 #[test]
 fn a_script_often_purges_and_blocks() {
-    let tally = Driver::drive(4, 100_000, Unheard).unwrap();
+    let tally = &*TALLY;
     assert!(tally.purges.0.iter().all(|&count| count > 20), "{tally}");
     // Where nothing is found, no token is equal to its own.
     let vain = tally.vain_purges.0;
     assert_eq!(
-        vain.iter().filter(|&&count| count > 50).count(),
-        7,
+        vain.iter().filter(|&&count| count > 20).count(),
+        9,
         "{tally}"
     );
     assert!(tally.blocks.0.iter().all(|&count| count > 50), "{tally}");
@@ -362,6 +372,38 @@ fn a_script_often_purges_and_blocks() {
     );
     assert_eq!(tally.purges.0[0], tally.done["w"], "{tally}");
     assert_eq!(tally.vain_purges.0[0], tally.ignored["w"], "{tally}");
+}
+
+/// Bits are set and cleared by every kind that can, also past their first byte, and the sum is lowered
+/// by every kind that leaves its order live.
+#[test]
+fn a_script_often_moves_bits_and_sums() {
+    let tally = &*TALLY;
+    let sets = "OU".chars().map(|kind| format!("set by {kind}"));
+    let clears = "UXceqfw".chars().map(|kind| format!("cleared by {kind}"));
+    let lowers = "XMceq"
+        .chars()
+        .map(|kind| format!("only lowered by {kind}"));
+    let later = ["set", "cleared"].map(|what| format!("{what} past the first byte"));
+    let moves: Vec<String> = sets.chain(clears).chain(lowers).chain(later).collect();
+    let counted = &tally.bits.0;
+    assert!(counted.keys().all(|what| moves.contains(what)), "{tally}");
+    let often = |what: &String| counted.get(what).is_some_and(|&count| count > 100);
+    assert!(moves.iter().all(often), "{tally}");
+}
+
+/// Statuses find every kind of damage, and there is every kind of table to convert.
+#[test]
+fn a_script_often_asks_for_the_status_and_converts() {
+    let tally = &*TALLY;
+    assert!(tally.statuses[0] > 50_000, "{tally}");
+    assert!(tally.found.0.iter().all(|&count| count > 100), "{tally}");
+    let [done, unsound, no_room] = [0, 10, 13].map(|answer| tally.conversions[answer]);
+    assert!(done.min(unsound).min(no_room) > 1_000, "{tally}");
+    let converted = tally.converted.0;
+    assert!(converted.iter().all(|&count| count > 100), "{tally}");
+    let told = tally.to_string();
+    assert!(told.contains(&format!("conversions (0: {done}, 10: {unsound}")));
 }
 
 /// Lengths above the paper's are tried too.
@@ -377,7 +419,7 @@ fn a_script_goes_beyond_the_longest_table_ring_and_list() {
         Command::Ring { ring, .. } => ring.len(),
         _ => 0,
     });
-    assert!(table >= Some(64_144) && ring == Some(65_537));
+    assert!(table >= Some(table_len(801)) && ring == Some(65_537));
     let too_long = |command: &Command| match command {
         Command::Stocks(stocks) => stocks.len() == 9 * 2_001,
         _ => false,

@@ -2,6 +2,7 @@
 //! many, and each is missed that a used one is but for a single character, beside the second host.
 
 use compare::{Desk, Host, Proved, Second};
+use second::tapes::counts::table_len;
 
 /// The most orders of a table, even ones and odd ones below it.
 const MOST: usize = 17;
@@ -33,7 +34,7 @@ fn counted(front: &str, order: usize, end: &str) -> Token {
 /// An open desk with so many live orders.
 fn desk(orders: usize, token: fn(usize) -> Token) -> Desk {
     let mut desk = Desk {
-        table: vec![0; 64 + 80 * MOST],
+        table: vec![0; table_len(MOST)],
         ring: vec![0; 80],
         stocks: b"IBM     T".to_vec(),
         ..Desk::default()
@@ -69,7 +70,8 @@ fn each_token_is_found_where_it_stands() {
             for order in 0..MOST {
                 let (answer, after) = cancel(&proved, &desk, &token(order));
                 assert_eq!(answer, u8::from(order >= orders));
-                let dead = after.table[64..].chunks(80).position(|row| row[0] == b'D');
+                let mut rows = after.table[64..].chunks_exact(80);
+                let dead = rows.position(|row| row[0] == b'D');
                 assert_eq!(dead, (order < orders).then_some(order));
             }
         }

@@ -7,7 +7,7 @@
 use std::io::{self, Read, Write};
 use std::process::ExitCode;
 
-use pilaqsevi::{Answer, Desk, MOST_RECORDS, SHORTEST_RING, Settings, entry_length};
+use pilaqsevi::{Answer, Desk, MOST_RECORDS, SHORTEST_RING, Settings, Status, entry_length};
 
 /// The most that the reader takes at a time.
 const SLOW: usize = 12;
@@ -43,6 +43,8 @@ fn play() -> io::Result<()> {
             "through a roomy ring something else is sent or left",
         ));
     }
+    let Status { live, open } = desk.status();
+    eprintln!("{live} live, {open} shares open");
     eprintln!(
         "{} bytes sent; through a ring of {ROOMY} the stream is the same",
         small.len()

@@ -3,6 +3,8 @@
 use std::error::Error;
 use std::fmt::{self, Display, Formatter};
 
+use crate::Status;
+
 /// An answer. It prints as the paper's number and what that means: `9: blocked`, or
 /// `3: bad byte at 24` where a byte of an entry or a message was bad.
 ///
@@ -42,13 +44,14 @@ pub enum Answer {
     /// The message is longer than what is free in the ring. The entry may be offered again once
     /// bytes were released, and comes to the same.
     Blocked,
-    /// The table isn't sound.
+    /// The table isn't sound; of a conversion, it isn't in its old form.
     NotSound,
     /// The ring's length or its marks are wrong.
     WrongRing,
     /// More was to be released than is held.
     NotHeld,
-    /// The buffer is too short for the echo's message, or for the entry that is made.
+    /// The buffer is too short for the echo's message or for the entry that is made, or hasn't exactly
+    /// the length of the rebuilt table.
     NoRoom,
     /// The list of stocks is too long, not of whole places, not ascending or has another state.
     WrongStocks,
@@ -121,7 +124,20 @@ impl Answer {
             13 => Answer::NoRoom,
             14 => Answer::WrongStocks,
             15 => Answer::UnlistedFirm,
-            _ => no_answer(number, 0),
+            _ => no_answer(number, "at 0"),
+        }
+    }
+
+    /// The answer of a status. Both numbers are 0 where it is refused: others beside a refusal aren't
+    /// dropped, since they mean that some other archive was linked.
+    #[inline]
+    pub(crate) fn beside(number: u8, status: Status) -> Answer {
+        match (number, status) {
+            (0, _) => Answer::Done,
+            (_, Status { live: 0, open: 0 }) => Answer::refused(number),
+            (_, Status { live, open }) => {
+                no_answer(number, format_args!("with {live} live and {open} open"))
+            }
         }
     }
 
@@ -141,7 +157,7 @@ impl Answer {
         match (number, place) {
             (3, place) => Answer::BadField { place },
             (number, 0) => Answer::of(number),
-            _ => no_answer(number, place),
+            _ => no_answer(number, format_args!("at {place}")),
         }
     }
 
@@ -162,7 +178,7 @@ impl Answer {
             Answer::NotSound => "table not sound",
             Answer::WrongRing => "wrong ring length or marks",
             Answer::NotHeld => "more than is held",
-            Answer::NoRoom => "buffer too short",
+            Answer::NoRoom => "buffer too short or of a wrong length",
             Answer::WrongStocks => "list of stocks wrong",
             Answer::UnlistedFirm => "firm not listed",
         }
@@ -183,13 +199,14 @@ impl Display for Answer {
 impl Error for Answer {}
 
 #[cold]
-fn no_answer(number: u8, place: usize) -> ! {
-    panic!("the archive answered {number} at {place}, which is no answer")
+fn no_answer(number: u8, told: impl Display) -> ! {
+    panic!("the archive answered {number} {told}, which is no answer")
 }
 
 #[cfg(test)]
 mod tests {
     use super::Answer;
+    use crate::Status;
 
     #[test]
     fn each_answer_is_the_answer_of_its_number() {
@@ -218,11 +235,26 @@ mod tests {
             (Answer::at(2, 0), "2: unknown kind or wrong length"),
             (Answer::at(9, 0), "9: blocked"),
             (Answer::of(12), "12: more than is held"),
+            (Answer::of(13), "13: buffer too short or of a wrong length"),
             (Answer::at(14, 0), "14: list of stocks wrong"),
             (Answer::at(15, 0), "15: firm not listed"),
         ] {
             assert_eq!(answer.to_string(), printed);
         }
+    }
+
+    #[test]
+    fn a_refused_status_has_no_numbers() {
+        let (none, some) = (Status::default(), Status { live: 2, open: 0 });
+        assert_eq!(Answer::beside(10, none), Answer::NotSound);
+        assert_eq!(Answer::beside(0, none), Answer::Done);
+        assert_eq!(Answer::beside(0, some), Answer::Done);
+    }
+
+    #[test]
+    #[should_panic(expected = "answered 10 with 2 live and 0 open")]
+    fn no_refused_status_has_any() {
+        let _ = Answer::beside(10, Status { live: 2, open: 0 });
     }
 
     #[test]

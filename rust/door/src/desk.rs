@@ -1,6 +1,8 @@
 //! A desk: one host with its memory, so that nobody wires table, ring, marks and list by hand.
 
-use crate::{Answer, Host, LONGEST_RING, MOST_RECORDS, Marks, read, release, table_size};
+use crate::{
+    Answer, Host, LONGEST_RING, MOST_RECORDS, Marks, Status, read, release, status, table_size,
+};
 
 /// What a fresh table is made from.
 #[derive(Clone, Copy, Debug, PartialEq, Eq)]
@@ -74,6 +76,12 @@ impl Desk {
         let answer = host.step(entry);
         self.marks = host.marks();
         answer
+    }
+
+    /// How many orders are live and how many shares of them are open. A desk's table is always sound,
+    /// so that this is never refused.
+    pub fn status(&self) -> Status {
+        status(&self.table).expect("a desk's table is of a table's length and form")
     }
 
     /// The longest unbroken run of bytes that are to be sent next: all that is held, or the part

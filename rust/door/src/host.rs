@@ -1,6 +1,6 @@
 //! A host over memory that is lent to it: a driver stays the same when there is one buffer more.
 
-use crate::{Answer, Marks, fresh, read, release, step};
+use crate::{Answer, Marks, Status, fresh, read, release, status, step};
 
 /// A host that borrows its table, ring and list of stocks, and holds the marks. It asks for no
 /// memory.
@@ -17,6 +17,7 @@ use crate::{Answer, Marks, fresh, read, release, step};
 /// // A halt sends nothing, and asks for no open day.
 /// assert_eq!(host.step(b"h\0\0\0\0\0\0\0\x01ABC     H"), Answer::Done);
 /// assert_eq!((host.stocks(), host.held()), (b"ABC     H".as_slice(), 0));
+/// assert_eq!(host.status().map(|status| status.live), Ok(0));
 /// ```
 #[derive(Debug, PartialEq, Eq)]
 pub struct Host<'a> {
@@ -62,6 +63,13 @@ impl<'a> Host<'a> {
     #[inline]
     pub fn step(&mut self, entry: &[u8]) -> Answer {
         step(self.table, self.ring, &mut self.marks, self.stocks, entry)
+    }
+
+    /// How many orders are live and how many shares of them are open, as
+    /// [`status`](crate::status) tells.
+    #[inline]
+    pub fn status(&self) -> Result<Status, Answer> {
+        status(self.table)
     }
 
     /// The longest unbroken run of bytes that are to be sent next, as [`read`](crate::read) gives.

@@ -5,6 +5,12 @@
 //! Each is total: it has an answer for every table, ring, pair of marks, list of stocks and entry,
 //! sound or not, and only [`Answer::Done`] changes anything.
 //!
+//! A table has a header, its records, and behind them a bit for each record, set exactly while that is
+//! used and its order is live: the lowest bit of the first byte is the first record's, and spare bits
+//! are zero. Bytes 60 to 63 hold the sum of the live orders' open shares, and byte 2, the form, is 1.
+//! All this is so in a sound table and stays so with every entry; [`status`] reads the two numbers off
+//! it, and [`convert`] rebuilds a table that was kept in the old form, which had none of it.
+//!
 //! A [`Desk`] is the usual way in, and a [`Host`] the one for memory that is the caller's own. The
 //! calls below them take each buffer by itself, as `include/pilaqsevi.h` does for C.
 
@@ -19,12 +25,12 @@ pub use desk::{Desk, Settings};
 pub use host::Host;
 pub use limits::{
     HEADER_SIZE, HIGHEST_THRESHOLD, LONGEST_ENTRY, LONGEST_MESSAGE, LONGEST_RING, MOST_FIRMS,
-    MOST_RECORDS, MOST_STOCKS, RECORD_SIZE, SHORTEST_RING, STOCK_SIZE, SYMBOL_SIZE, stocks_size,
-    table_size,
+    MOST_RECORDS, MOST_STOCKS, RECORD_SIZE, SHORTEST_RING, STOCK_SIZE, SYMBOL_SIZE, old_table_size,
+    stocks_size, table_size,
 };
 
-/// What a place is before a call: every call writes it, and one that did not would be found out by
-/// this, which is no place.
+/// What a place or a number of a status is before a call: every call writes it, and one that did not
+/// would be found out by this, which is neither.
 const UNTOLD: usize = usize::MAX;
 
 /// Where the held bytes of a ring begin and how many they are. A new ring has zeros.
@@ -34,6 +40,15 @@ pub struct Marks {
     pub at: usize,
     /// The held count, at most the ring's length.
     pub held: usize,
+}
+
+/// What a status screen shows of a table.
+#[derive(Clone, Copy, Debug, Default, PartialEq, Eq)]
+pub struct Status {
+    /// How many orders are live.
+    pub live: usize,
+    /// How many shares of them are open, in all.
+    pub open: usize,
 }
 
 /// Why this program can't call the proved functions, or nothing where it can.
@@ -46,7 +61,7 @@ pub fn absent() -> Option<&'static str> {
 /// Makes the table fresh: day 0, nothing used, this threshold and these firms (1 to 8, the first
 /// is the default; each 1 to 4 capitals, then spaces).
 ///
-/// A table is 64 + 80n bytes with n from 1 to 800, or the answer is [`Answer::NotSound`]; then
+/// A table has [`table_size`] bytes of 1 to 800 records, or the answer is [`Answer::NotSound`]; then
 /// bad settings are [`Answer::BadSettings`].
 #[inline]
 pub fn fresh(table: &mut [u8], threshold: u32, firms: &[[u8; 4]]) -> Answer {
@@ -62,6 +77,36 @@ pub fn fresh(table: &mut [u8], threshold: u32, firms: &[[u8; 4]]) -> Answer {
             firms.len(),
         )
     })
+}
+
+/// Rebuilds a table of the old form, which was kept from before, in a second buffer.
+///
+/// An old table has [`old_table_size`] bytes of 1 to 800 records, with zeros as its form and in bytes
+/// 60 to 63. Where it isn't sound as such the answer is [`Answer::NotSound`], and then a buffer that
+/// hasn't exactly [`table_size`] bytes of as many records is [`Answer::NoRoom`]. What is written is
+/// the old table with its form, its sum and its bits; unused records are carried as they are.
+///
+#[cfg_attr(archive, doc = "```")]
+#[cfg_attr(not(archive), doc = "```ignore")]
+/// use pilaqsevi::{Answer, convert, fresh, old_table_size, table_size};
+///
+/// let mut table = [0; table_size(10)];
+/// assert_eq!(fresh(&mut table, 1_000_000, &[*b"ABCD"]), Answer::Done);
+///
+/// // The same in the old form: there is no live order, so that only the form was another.
+/// let mut old = [0; old_table_size(10)];
+/// old.copy_from_slice(&table[..old_table_size(10)]);
+/// old[2] = 0;
+///
+/// let mut rebuilt = [0; table_size(10)];
+/// assert_eq!(convert(&old, &mut rebuilt), Answer::Done);
+/// assert_eq!(rebuilt, table);
+/// ```
+#[inline]
+pub fn convert(old: &[u8], table: &mut [u8]) -> Answer {
+    // SAFETY: both pointers come with the lengths of their slices, the borrows are apart and last
+    // through the call, and the function keeps no pointer.
+    Answer::of(unsafe { raw::pq_convert(old.as_ptr(), old.len(), table.as_mut_ptr(), table.len()) })
 }
 
 /// Offers one entry to the host that the table's bytes describe.
@@ -106,6 +151,33 @@ pub fn step(
         )
     };
     Answer::at(number, place)
+}
+
+/// How many orders are live and how many shares of them are open, without a walk over the records: the
+/// ones among the table's bits, and what its bytes 60 to 63 hold.
+///
+/// Over a sound table that is what counting would give. Whether it is sound isn't judged; only where
+/// its length or its form is no table's the answer is [`Answer::NotSound`].
+#[inline]
+pub fn status(table: &[u8]) -> Result<Status, Answer> {
+    let mut status = Status {
+        live: UNTOLD,
+        open: UNTOLD,
+    };
+    // SAFETY: the first pointer comes with the length of its slice, which is only read, the others
+    // are to one number each, apart from each other, and the function keeps none.
+    let number = unsafe {
+        raw::pq_status(
+            table.as_ptr(),
+            table.len(),
+            &mut status.live,
+            &mut status.open,
+        )
+    };
+    match Answer::beside(number, status) {
+        Answer::Done => Ok(status),
+        refused => Err(refused),
+    }
 }
 
 /// The longest unbroken run of held bytes from the read place, a part of the ring itself. Over a

@@ -24,8 +24,13 @@ pub const LONGEST_ENTRY: usize = 56;
 /// The longest message.
 pub const LONGEST_MESSAGE: usize = 80;
 
-/// The bytes of a table with so many records.
+/// The bytes of a table with so many records: the header, the records, and a bit for each of them.
 pub const fn table_size(records: usize) -> usize {
+    old_table_size(records) + records.div_ceil(8)
+}
+
+/// The bytes of such a table in its old form, which had no bits.
+pub const fn old_table_size(records: usize) -> usize {
     HEADER_SIZE + RECORD_SIZE * records
 }
 

@@ -21,8 +21,8 @@ macro_rules! archive {
     };
 }
 
-// A pointer is to as many bytes as the length behind it says; `at`, `held` and `place` are to one
-// number, and `place` is written by every call that has one.
+// A pointer is to as many bytes as the length behind it says; `at`, `held`, `place`, `live` and
+// `open` are to one number, and the last three are written by every call that has them.
 archive! {
     /// Makes the table fresh; the firms are 4 bytes each, one after the other, and `firms_len`
     /// counts bytes.
@@ -30,11 +30,19 @@ archive! {
         table: *mut u8, table_len: usize, threshold: u32, firms: *const u8, firms_len: usize
     ) -> u8;
 
+    /// Rebuilds a table of the old form in a second buffer.
+    fn pq_convert(old_table: *const u8, old_len: usize, table: *mut u8, table_len: usize) -> u8;
+
     /// Offers one entry, and tells its first bad byte.
     fn pq_step(
         table: *mut u8, table_len: usize, ring: *mut u8, ring_len: usize,
         at: *mut usize, held: *mut usize, stocks: *mut u8, stocks_len: usize,
         entry: *const u8, entry_len: usize, place: *mut usize
+    ) -> u8;
+
+    /// Tells how many orders are live, and the sum of their open shares.
+    fn pq_status(
+        table: *const u8, table_len: usize, live: *mut usize, open: *mut usize
     ) -> u8;
 
     /// The length of the run that starts at `ring + at`.

@@ -4,8 +4,9 @@
 
 use pilaqsevi::{
     Answer, Desk, HIGHEST_THRESHOLD, Host, LONGEST_ENTRY, LONGEST_MESSAGE, LONGEST_RING,
-    MOST_FIRMS, MOST_RECORDS, MOST_STOCKS, Marks, SHORTEST_RING, SYMBOL_SIZE, Settings, echo,
-    entry, entry_length, fresh, message_length, read, release, step, stocks_size, table_size,
+    MOST_FIRMS, MOST_RECORDS, MOST_STOCKS, Marks, SHORTEST_RING, SYMBOL_SIZE, Settings, Status,
+    convert, echo, entry, entry_length, fresh, message_length, old_table_size, read, release,
+    status, step, stocks_size, table_size,
 };
 
 const SETTINGS: Settings = Settings {
@@ -461,9 +462,215 @@ fn a_firm_that_is_not_listed_is_neither_purged_nor_blocked() {
     }
 }
 
+/// The same order with another number in its token.
+fn enter(number: usize) -> Vec<u8> {
+    let mut enter = ENTER.to_vec();
+    enter[20..22].copy_from_slice(format!("{number:02}").as_bytes());
+    enter
+}
+
+/// A Cancel of it to this size, at the same time.
+fn cancel(number: usize, size: u8) -> Vec<u8> {
+    let mut cancel = CANCEL.to_vec();
+    cancel[20..22].copy_from_slice(format!("{number:02}").as_bytes());
+    (cancel[8], cancel[26]) = (ENTER[8], size);
+    cancel
+}
+
+/// A desk of so many records that has taken these entries.
+fn played(records: usize, entries: &[Vec<u8>]) -> Desk {
+    let mut desk = Desk::new(SETTINGS, records, 128, STOCKS).unwrap();
+    for entry in entries {
+        assert_eq!(desk.offer(entry), Answer::Done);
+        empty(&mut desk);
+    }
+    desk
+}
+
+/// The table in the form that it had before: without bits, and with zeros as its form and its sum.
+fn old_form(table: &[u8], records: usize) -> Vec<u8> {
+    let mut old = table[..old_table_size(records)].to_vec();
+    old[2] = 0;
+    old[60..64].fill(0);
+    old
+}
+
+#[test]
+#[cfg_attr(not(archive), ignore = "no archive of the proved functions is linked")]
+fn a_status_goes_with_every_entry() {
+    let mut desk = Desk::new(SETTINGS, 10, 128, STOCKS).unwrap();
+    let mut left = |entry: &[u8]| {
+        empty(&mut desk);
+        assert_eq!(desk.offer(entry), Answer::Done);
+        let Status { live, open } = desk.status();
+        let table = desk.table();
+        assert_eq!(table[2], 1);
+        assert_eq!(
+            u32::from_be_bytes(table[60..64].try_into().unwrap()),
+            open as u32
+        );
+        (live, open, table[old_table_size(10)..].to_vec())
+    };
+    assert_eq!(left(START), (0, 0, vec![0, 0]));
+    for number in 1..=9 {
+        let (live, open, _) = left(&enter(number));
+        assert_eq!((live, open), (number, 500 * number));
+    }
+    assert_eq!(left(&cancel(9, 100)), (9, 4_100, vec![0xff, 0b01]));
+    assert_eq!(left(&cancel(2, 0)), (8, 3_600, vec![0xfd, 0b01]));
+    // A token that a Rejected uses up takes a record, and is no order.
+    assert_eq!(left(HALT), (8, 3_600, vec![0xfd, 0b01]));
+    assert_eq!(left(&enter(10)), (8, 3_600, vec![0xfd, 0b01]));
+    // The first order goes, and the next one with the same entry again: the third.
+    let purge = made(true, 2, MASS_CANCEL).unwrap();
+    assert_eq!(left(&purge), (7, 3_100, vec![0xfc, 0b01]));
+    assert_eq!(left(&purge), (6, 2_600, vec![0xf8, 0b01]));
+}
+
+#[test]
+#[cfg_attr(not(archive), ignore = "no archive of the proved functions is linked")]
+fn a_table_that_miscounts_is_not_sound_and_a_status_believes_it() {
+    let desk = played(10, &[START.to_vec(), enter(1), enter(2)]);
+    let bits = old_table_size(10);
+    // A dead order's bit, an unused record's and a spare one; then the last byte of the sum.
+    let two = Status {
+        live: 2,
+        open: 1_000,
+    };
+    for (place, bit, live) in [
+        (bits, 0b01, 1),
+        (bits, 0b100, 3),
+        (bits + 1, 0b10, 3),
+        (bits + 1, 0b100, 3),
+        (bits + 1, 0x80, 3),
+        (63, 0x08, 2),
+    ] {
+        let (mut table, mut ring) = (desk.table().to_vec(), [0; SHORTEST_RING]);
+        assert_eq!(status(&table), Ok(two));
+        table[place] ^= bit;
+        let mut host = Host::new(&mut table, &mut ring);
+        // 1,000 ends with the byte 0xe8, so that this bit is taken from the sum.
+        let open = if place == 63 { 992 } else { 1_000 };
+        assert_eq!(host.status(), Ok(Status { live, open }));
+        assert_eq!(host.step(&cancel(1, 0)), Answer::NotSound);
+    }
+}
+
+#[test]
+#[cfg_attr(not(archive), ignore = "no archive of the proved functions is linked")]
+fn a_status_is_refused_where_length_or_form_is_no_tables() {
+    let mut bytes = vec![0xff; table_size(MOST_RECORDS + 1)];
+    bytes[2] = 1;
+    let mut records = 1;
+    for len in 0..=bytes.len() {
+        // A table is the next one that is longer than the last.
+        let right = records <= MOST_RECORDS && len == table_size(records);
+        let (live, open) = (8 * records.div_ceil(8), u32::MAX as usize);
+        let told = if right {
+            Ok(Status { live, open })
+        } else {
+            Err(Answer::NotSound)
+        };
+        assert_eq!(status(&bytes[..len]), told);
+        records += usize::from(right);
+    }
+    assert_eq!(records, MOST_RECORDS + 1);
+    for form in (0..=255).filter(|&form| form != 1) {
+        bytes[2] = form;
+        assert_eq!(status(&bytes[..table_size(3)]), Err(Answer::NotSound));
+    }
+}
+
+#[test]
+#[cfg_attr(not(archive), ignore = "no archive of the proved functions is linked")]
+fn an_old_table_is_rebuilt_and_the_day_goes_on() {
+    let cut = cancel(1, 100);
+    let entries = [
+        START.to_vec(),
+        enter(1),
+        enter(2),
+        enter(3),
+        cut,
+        cancel(2, 0),
+    ];
+    for records in [3, 8, 9, MOST_RECORDS] {
+        let mut desk = played(records, &entries);
+        let mut old = old_form(desk.table(), records);
+        // What stands in an unused record is nobody's business, and carried along.
+        let unused = old_table_size(3)..;
+        old[unused].fill(b'L');
+        let mut table = vec![0x55; table_size(records)];
+        let (mut ring, mut stocks) = ([0; SHORTEST_RING], *STOCKS);
+        let kept = old.clone();
+        assert_eq!(convert(&old, &mut table), Answer::Done);
+        assert!(old == kept);
+        old[2] = 1;
+        old[60..64].copy_from_slice(&600_u32.to_be_bytes());
+        assert!(table[..old.len()] == old);
+        let bits = &table[old.len()..];
+        assert!(bits[0] == 0b101 && bits[1..].iter().all(|&byte| byte == 0));
+        // Both tables answer the rest of the day alike; the old one is no table any more.
+        let mut host = Host::new(&mut table, &mut ring).with_stocks(&mut stocks);
+        for entry in [cancel(2, 0), cancel(3, 0), cancel(1, 0)] {
+            assert_eq!(host.step(&entry), desk.offer(&entry));
+            assert_eq!(host.read(), desk.read());
+            assert_eq!(host.status(), Ok(desk.status()));
+            assert_eq!(host.release(host.held()), Answer::Done);
+            empty(&mut desk);
+        }
+        let mut kept = kept;
+        let mut host = Host::new(&mut kept, &mut ring).with_stocks(&mut stocks);
+        assert_eq!(host.step(START), Answer::NotSound);
+    }
+}
+
+#[test]
+#[cfg_attr(not(archive), ignore = "no archive of the proved functions is linked")]
+fn a_conversion_that_is_refused_says_why_and_changes_nothing() {
+    let desk = played(3, &[START.to_vec(), enter(1)]);
+    let old = old_form(desk.table(), 3);
+    let refused = |old: &[u8], len: usize| {
+        let mut table = vec![0x55; len];
+        let answer = convert(old, &mut table);
+        assert!(table.iter().all(|&byte| byte == 0x55));
+        answer
+    };
+    let right = table_size(3);
+    for len in (0..2 * right).filter(|&len| len != right) {
+        assert_eq!(refused(&old, len), Answer::NoRoom);
+    }
+    // What isn't sound is told first: a form, a sum, a day, a state, a length.
+    let damaged = |place: usize, byte: u8| {
+        let mut old = old.clone();
+        old[place] = byte;
+        old
+    };
+    for wrong in [
+        damaged(2, 1),
+        damaged(2, 2),
+        damaged(60, 1),
+        damaged(63, 1),
+        damaged(0, 3),
+        damaged(64, b'D'),
+        old[..old.len() - 1].to_vec(),
+        old[..64].to_vec(),
+        desk.table().to_vec(),
+        vec![],
+    ] {
+        for len in [0, right - 1, right] {
+            assert_eq!(refused(&wrong, len), Answer::NotSound);
+        }
+    }
+}
+
 #[test]
 #[cfg_attr(not(archive), ignore = "no archive of the proved functions is linked")]
 fn lengths_are_the_papers() {
+    assert_eq!(
+        (table_size(1), table_size(8), table_size(9)),
+        (145, 705, 786)
+    );
+    assert_eq!(table_size(MOST_RECORDS), 64_164);
     let entries = (0..=255).filter_map(|kind| Some((kind, entry_length(kind)?)));
     let entries: Vec<(u8, usize)> = entries.collect();
     let kinds: Vec<u8> = entries.iter().map(|(kind, _)| *kind).collect();

@@ -22,6 +22,8 @@ pub enum Answer {
     WrongMarks,
     ReleaseAboveHeld,
     BufferTooShort,
+    /// 13 as well: the converter's second buffer hasn't exactly the new length.
+    WrongBufferLength,
     WrongStocks,
     FirmNotListed,
 }
@@ -43,7 +45,7 @@ impl Answer {
             Answer::TableNotSound => 10,
             Answer::WrongMarks => 11,
             Answer::ReleaseAboveHeld => 12,
-            Answer::BufferTooShort => 13,
+            Answer::BufferTooShort | Answer::WrongBufferLength => 13,
             Answer::WrongStocks => 14,
             Answer::FirmNotListed => 15,
         }
@@ -82,4 +84,15 @@ pub struct Told {
     pub answer: u8,
     /// With 3 the smallest offset of a bad byte, counted from the kind or type; otherwise 0.
     pub place: usize,
+}
+
+/// What the status call tells: the number, and with 0 what the table says of its orders.
+#[derive(Clone, Copy, Debug, PartialEq, Eq)]
+pub struct Status {
+    /// The paper's number.
+    pub answer: u8,
+    /// How many orders are live.
+    pub live: usize,
+    /// The open shares of all of them.
+    pub open: usize,
 }

@@ -1,22 +1,32 @@
-//! The doors over the paper's bytes: fresh, step, read and release, total on all inputs.
+//! The doors over the paper's bytes: fresh, step, read, release, convert and status, total on all
+//! inputs.
 
-use crate::answer::{Answer, Told};
+use crate::answer::{Answer, Status, Told};
+use crate::bits;
 use crate::host::Host;
+use crate::order::RECORD_LEN;
 use crate::outbox::{Marks, Outbox, run};
+use crate::shares::Open;
 use crate::stocks::Stocks;
-use crate::table::{HEADER_LEN, Header, Settings, record_count};
+use crate::table::{Claims, Form, HEADER_LEN, Header, Settings, claimed_open};
 
 /// Makes the table fresh: refuses a bad length with 10, then bad settings with 3. No place is told of
 /// either.
 pub fn fresh(table: &mut [u8], threshold: u32, firms: &[[u8; 4]]) -> u8 {
-    if record_count(table.len()).is_none() {
+    let form = Form::Counted;
+    if form.record_count(table.len()).is_none() {
         return Answer::TableNotSound.number();
     }
     let Some(settings) = Settings::of(threshold, firms) else {
         return Answer::BadSettings.number();
     };
     table.fill(0);
-    Header::fresh(settings).write(0, &mut table[..HEADER_LEN]);
+    let none = Claims {
+        form,
+        used: 0,
+        open: Open(0),
+    };
+    Header::fresh(settings).write(none, &mut table[..HEADER_LEN]);
     Answer::Done.number()
 }
 
@@ -65,4 +75,43 @@ pub fn release(ring_len: usize, at: &mut usize, held: &mut usize, k: usize) -> u
         *held = marks.held;
     }))
     .number()
+}
+
+/// Rebuilds a table of the old form in a second buffer: an old one that isn't sound is 10, and then a
+/// buffer of any other length than the new table's 13. A refusal leaves the buffer alone.
+pub fn convert(old: &[u8], table: &mut [u8]) -> u8 {
+    let Some(host) = Host::load_bare(old) else {
+        return Answer::TableNotSound.number();
+    };
+    let image = host.image();
+    if table.len() != image.len() {
+        return Answer::WrongBufferLength.number();
+    }
+    table.copy_from_slice(&image);
+    Answer::Done.number()
+}
+
+/// What a table says of its live orders, whether or not it is true: no record is looked at. Bytes that
+/// no table has the length or the form of are 10.
+pub fn status(table: &[u8]) -> Status {
+    let Some((live, open)) = told_by(table) else {
+        return Status {
+            answer: Answer::TableNotSound.number(),
+            live: 0,
+            open: 0,
+        };
+    };
+    Status {
+        answer: Answer::Done.number(),
+        live,
+        open: open.0 as usize,
+    }
+}
+
+/// The ones among all the bits, spare ones too, and the sum.
+fn told_by(table: &[u8]) -> Option<(usize, Open)> {
+    let records = Form::Counted.record_count(table.len())?;
+    let open = claimed_open(&table[..HEADER_LEN])?;
+    let behind = &table[HEADER_LEN + RECORD_LEN * records..];
+    Some((bits::ones(behind), open))
 }

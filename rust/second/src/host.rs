@@ -3,13 +3,15 @@
 use std::collections::HashMap;
 
 use crate::answer::{Answer, Told};
+use crate::bits;
 use crate::entry::Entry;
 use crate::field::{Field, Stamp, Token};
 use crate::order::{Order, RECORD_LEN, Record};
 use crate::outbox::Outbox;
 use crate::rules::{Deed, decide};
+use crate::shares::Open;
 use crate::stocks::Stocks;
-use crate::table::{Day, HEADER_LEN, Header, LAST_REFERENCE, record_count};
+use crate::table::{Claims, Day, Form, HEADER_LEN, Header, LAST_REFERENCE};
 
 /// A sound table in the host's own structures.
 #[derive(Clone, Debug)]
@@ -27,13 +29,29 @@ pub struct Host {
 impl Host {
     /// The host of a table, or nothing where the table isn't sound.
     pub fn load(table: &[u8]) -> Option<Host> {
-        let count = record_count(table.len())?;
-        let (header_bytes, record_bytes) = table.split_at(HEADER_LEN);
-        let (header, used) = Header::read(header_bytes)?;
-        if used > count {
+        let (host, claims, bits) = Host::read(Form::Counted, table)?;
+        let counted = claims.open == host.open() && bits == host.bits();
+        counted.then_some(host)
+    }
+
+    /// The host of a table in its old form, or nothing where that isn't sound.
+    pub fn load_bare(table: &[u8]) -> Option<Host> {
+        let (host, claims, _) = Host::read(Form::Bare, table)?;
+        // What is the sum's place now was zero.
+        (claims.open == Open(0)).then_some(host)
+    }
+
+    /// The host that a table of this form shows, what the header claims and the bits behind the
+    /// records, which aren't judged yet; nothing where all else isn't sound.
+    fn read(form: Form, table: &[u8]) -> Option<(Host, Claims, &[u8])> {
+        let count = form.record_count(table.len())?;
+        let (header_bytes, rest) = table.split_at(HEADER_LEN);
+        let (record_bytes, bits) = rest.split_at(count * RECORD_LEN);
+        let (header, claims) = Header::read(header_bytes)?;
+        if claims.form != form || claims.used > count {
             return None;
         }
-        let (used_bytes, unused_bytes) = record_bytes.split_at(used * RECORD_LEN);
+        let (used_bytes, unused_bytes) = record_bytes.split_at(claims.used * RECORD_LEN);
         let records: Vec<Record> = used_bytes
             .chunks_exact(RECORD_LEN)
             .map(Record::read)
@@ -47,24 +65,31 @@ impl Host {
         for (place, record) in records.iter().enumerate() {
             first.entry(record.token()).or_insert(place);
         }
-        Some(Host {
+        let host = Host {
             header,
             records,
             unused,
             first,
-        })
+        };
+        Some((host, claims, bits))
     }
 
     /// The table's bytes.
     pub fn image(&self) -> Vec<u8> {
-        let records = self.records.len() + self.unused.len();
-        let mut table = vec![0; HEADER_LEN + records * RECORD_LEN];
+        let form = Form::Counted;
+        let mut table = vec![0; form.table_len(self.record_count())];
         let (header, rest) = table.split_at_mut(HEADER_LEN);
-        self.header.write(self.records.len(), header);
-        let (used, unused) = rest.split_at_mut(self.records.len() * RECORD_LEN);
+        let claims = Claims {
+            form,
+            used: self.records.len(),
+            open: self.open(),
+        };
+        self.header.write(claims, header);
+        let (used, rest) = rest.split_at_mut(self.records.len() * RECORD_LEN);
         for (record, out) in self.records.iter().zip(used.chunks_exact_mut(RECORD_LEN)) {
             record.write(out);
         }
+        let (unused, bits) = rest.split_at_mut(self.unused.len() * RECORD_LEN);
         for (bytes, out) in self
             .unused
             .iter()
@@ -73,7 +98,25 @@ impl Host {
         {
             bytes.put(out);
         }
+        bits.copy_from_slice(&self.bits());
         table
+    }
+
+    /// How many records there are, used or not.
+    fn record_count(&self) -> usize {
+        self.records.len() + self.unused.len()
+    }
+
+    /// The bits behind the records, from what the records are.
+    fn bits(&self) -> Vec<u8> {
+        let live = self.records.iter().map(|record| record.live().is_some());
+        bits::written(self.record_count(), live)
+    }
+
+    /// The open shares of all live orders. None is kept between entries: it is summed each time.
+    fn open(&self) -> Open {
+        let live = self.records.iter().filter_map(Record::live);
+        live.map(Order::open).sum()
     }
 
     /// Offers one entry; only the answer 0 changes anything.
@@ -153,19 +196,13 @@ impl Host {
     /// record is dead isn't live, whatever follows in a table made by hand.
     pub(crate) fn live(&self, token: Token) -> Option<(usize, Order)> {
         let place = *self.first.get(&token)?;
-        match self.records[place] {
-            Record::Order(order) if order.live() => Some((place, order)),
-            _ => None,
-        }
+        self.records[place].live().map(|order| (place, *order))
     }
 
     /// The live orders and their places, in record order. No token is asked for, so each record goes
     /// by its own state, whatever stands before it in a table made by hand.
     pub(crate) fn live_orders(&self) -> impl Iterator<Item = (usize, Order)> {
         let places = self.records.iter().enumerate();
-        places.filter_map(|(place, record)| match record {
-            Record::Order(order) if order.live() => Some((place, *order)),
-            _ => None,
-        })
+        places.filter_map(|(place, record)| record.live().map(|order| (place, *order)))
     }
 }

@@ -6,6 +6,8 @@
 //! structures and turns them into the paper's bytes only at its doors:
 //!
 //! - [`fresh`], [`step`], [`read`], [`release`]: the paper's calls over bytes, total on all inputs;
+//! - [`convert`]: a table of the old form, rebuilt in another buffer;
+//! - [`status`]: how many orders a table says are live, and how many shares they have open;
 //! - [`echo`]: reads one of the sixteen messages and writes it back;
 //! - [`entry()`]: makes an entry of a client's message or of the purge port's;
 //! - [`Told`]: what a step and either of these say, the number and with 3 the first bad byte's place;
@@ -16,6 +18,7 @@
 #![forbid(unsafe_code)]
 
 mod answer;
+mod bits;
 mod blocks;
 mod door;
 mod echo;
@@ -38,8 +41,8 @@ mod taping;
 #[cfg(test)]
 mod tests;
 
-pub use answer::{Answer, Told};
-pub use door::{fresh, read, release, step};
+pub use answer::{Answer, Status, Told};
+pub use door::{convert, fresh, read, release, status, step};
 pub use echo::echo;
 pub use field::{Account, AppendageLength, Side, Stamp, StockState, Sweep, Token};
 pub use host::Host;

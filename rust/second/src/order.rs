@@ -137,6 +137,14 @@ impl Record {
         }
     }
 
+    /// The order, where it is live.
+    pub fn live(&self) -> Option<&Order> {
+        match self {
+            Record::Order(order) if order.live() => Some(order),
+            _ => None,
+        }
+    }
+
     /// The token that the record stores.
     pub fn token(&self) -> Token {
         match self {

@@ -1,5 +1,7 @@
 //! Share numbers by kind, so that a total is never taken for an increment or for an exposure.
 
+use std::iter::Sum;
+
 use crate::field::{Field, plain_field};
 
 /// Shares of a whole chain: liable, executed, self-matched, an intended size.
@@ -10,7 +12,7 @@ pub struct Total(pub u32);
 #[derive(Clone, Copy, Debug, Default, PartialEq, Eq, PartialOrd, Ord)]
 pub struct Removed(pub u32);
 
-/// Shares still exposed: liable less executed less self-matched.
+/// Shares still exposed, of an order or of several: liable less executed less self-matched.
 #[derive(Clone, Copy, Debug, Default, PartialEq, Eq, PartialOrd, Ord)]
 pub struct Open(pub u32);
 
@@ -52,5 +54,12 @@ impl Open {
     /// The removal that leaves so much open, which must not be more.
     pub fn down_to(self, lower: Open) -> Removed {
         Removed(self.0 - lower.0)
+    }
+}
+
+/// 800 orders have fewer than 800,000,000 shares, so no sum of theirs is cut.
+impl Sum for Open {
+    fn sum<I: Iterator<Item = Open>>(orders: I) -> Open {
+        Open(orders.map(|open| open.0).sum())
     }
 }

@@ -1,8 +1,11 @@
-//! The table's length and header: the day, the settings, the blocks and the counters in 64 bytes.
+//! The table's forms, its length and its header: the day, the settings, the blocks and the counters in
+//! 64 bytes.
 
+use crate::bits;
 use crate::blocks::Blocks;
 use crate::field::{Field, Stamp, capitals_then_spaces};
 use crate::order::RECORD_LEN;
+use crate::shares::Open;
 
 /// The header's bytes.
 pub const HEADER_LEN: usize = 64;
@@ -17,18 +20,47 @@ const MOST_FIRMS: usize = 8;
 const FIRM_LEN: usize = 4;
 const FIRMS_AT: usize = 28;
 const FIRMS_END: usize = FIRMS_AT + MOST_FIRMS * FIRM_LEN;
-/// Where the firms' blocks stand.
+/// Where the form, the firms' blocks and the sum of open shares stand.
+const FORM_AT: usize = 2;
 const BLOCKS_AT: usize = 3;
+const OPEN_AT: usize = FIRMS_END;
 
 /// A firm code.
 pub type Firm = [u8; FIRM_LEN];
 
-/// How many records a table of this many bytes has, or nothing where the length is wrong.
-pub fn record_count(table_len: usize) -> Option<usize> {
-    let records = table_len.checked_sub(HEADER_LEN)?;
-    let count = records / RECORD_LEN;
-    let whole = records % RECORD_LEN == 0;
-    (whole && (1..=MOST_RECORDS).contains(&count)).then_some(count)
+/// A form of the table, by its number in the header. A step knows the second only, and the converter
+/// makes it of the first.
+#[derive(Clone, Copy, Debug, PartialEq, Eq)]
+#[repr(u8)]
+pub enum Form {
+    /// Header and records, and nothing that could be counted instead.
+    Bare = 0,
+    /// With the sum of open shares in the header, and a bit for each record behind the last.
+    Counted = 1,
+}
+
+impl Form {
+    /// The form whose header has this byte at its place.
+    fn of(byte: u8) -> Option<Form> {
+        [Form::Bare, Form::Counted]
+            .into_iter()
+            .find(|&form| form as u8 == byte)
+    }
+
+    /// How many bytes a table of so many records has.
+    pub fn table_len(self, records: usize) -> usize {
+        let bits = match self {
+            Form::Bare => 0,
+            Form::Counted => bits::bytes_for(records),
+        };
+        HEADER_LEN + RECORD_LEN * records + bits
+    }
+
+    /// How many records a table of this many bytes has, or nothing where the length is wrong. Each
+    /// number is tried, so that this hangs on no division.
+    pub fn record_count(self, table_len: usize) -> Option<usize> {
+        (1..=MOST_RECORDS).find(|&records| self.table_len(records) == table_len)
+    }
 }
 
 /// The part of the day.
@@ -82,7 +114,7 @@ impl Settings {
     }
 }
 
-/// The header without the count of used records, which the host's own rows give.
+/// The header without what the host's own rows give: the count of used ones and their open shares.
 #[derive(Clone, Debug, PartialEq, Eq)]
 pub struct Header {
     pub day: Day,
@@ -110,39 +142,36 @@ impl Header {
         place.is_some_and(|place| self.blocks.at(place))
     }
 
-    /// The header of 64 bytes and the used records it claims, or nothing where it isn't sound.
-    /// Whether so many records exist is for the caller to judge.
-    pub fn read(bytes: &[u8]) -> Option<(Header, usize)> {
-        let day = Day::of(bytes[0])?;
-        let used = u32::get(&bytes[4..8]);
-        let last_stamp = Stamp::get(&bytes[8..16]);
-        let next_reference = u64::get(&bytes[16..24]);
-        let settings = read_settings(bytes)?;
-        let blocks = Blocks::of(bytes[BLOCKS_AT], settings.firms.len())?;
-        let zeros = bytes[2..BLOCKS_AT]
-            .iter()
-            .chain(&bytes[FIRMS_END..HEADER_LEN]);
-        let good = last_stamp.good()
-            && (1..=LAST_REFERENCE).contains(&next_reference)
-            && zeros.into_iter().all(|&b| b == 0);
-        let header = Header {
-            day,
-            last_stamp,
-            next_reference,
-            settings,
-            blocks,
+    /// The header of 64 bytes and what it claims, or nothing where it isn't sound. Whether the claims
+    /// are true is for the caller to judge.
+    pub fn read(bytes: &[u8]) -> Option<(Header, Claims)> {
+        let claims = Claims {
+            form: Form::of(bytes[FORM_AT])?,
+            used: usize::try_from(u32::get(&bytes[4..8])).ok()?,
+            open: Open::get(&bytes[OPEN_AT..HEADER_LEN]),
         };
-        good.then_some((header, usize::try_from(used).ok()?))
+        let settings = read_settings(bytes)?;
+        let header = Header {
+            day: Day::of(bytes[0])?,
+            last_stamp: Stamp::get(&bytes[8..16]),
+            next_reference: u64::get(&bytes[16..24]),
+            blocks: Blocks::of(bytes[BLOCKS_AT], settings.firms.len())?,
+            settings,
+        };
+        let good =
+            header.last_stamp.good() && (1..=LAST_REFERENCE).contains(&header.next_reference);
+        good.then_some((header, claims))
     }
 
     /// Writes the header over 64 bytes.
-    pub fn write(&self, used: usize, out: &mut [u8]) {
+    pub fn write(&self, claims: Claims, out: &mut [u8]) {
         out.fill(0);
         out[0] = self.day as u8;
         // At most 8 firms and 800 records, so neither number is cut.
         out[1] = self.settings.firms.len() as u8;
+        out[FORM_AT] = claims.form as u8;
         out[BLOCKS_AT] = self.blocks.byte();
-        (used as u32).put(&mut out[4..8]);
+        (claims.used as u32).put(&mut out[4..8]);
         self.last_stamp.put(&mut out[8..16]);
         self.next_reference.put(&mut out[16..24]);
         self.settings.threshold.put(&mut out[24..28]);
@@ -150,7 +179,22 @@ impl Header {
         for (place, firm) in places.zip(&self.settings.firms) {
             firm.put(place);
         }
+        claims.open.put(&mut out[OPEN_AT..HEADER_LEN]);
     }
+}
+
+/// What a header says of the rest of its table: the form, the used records and their open shares.
+#[derive(Clone, Copy, Debug, PartialEq, Eq)]
+pub struct Claims {
+    pub form: Form,
+    pub used: usize,
+    pub open: Open,
+}
+
+/// What the status call looks at, in any bytes of a right length: the form's byte and the sum.
+pub fn claimed_open(header: &[u8]) -> Option<Open> {
+    let counted = Form::of(header[FORM_AT]) == Some(Form::Counted);
+    counted.then(|| Open::get(&header[OPEN_AT..HEADER_LEN]))
 }
 
 /// The settings of a header; the firm places past the count must be zero.

@@ -5,6 +5,7 @@
 //! wrong layout shows. Nothing here judges; a maker may look at any bytes, sound or not.
 
 mod chance;
+pub mod counts;
 pub mod damage;
 mod from_book;
 mod from_client;

@@ -1,12 +1,15 @@
 //! Tests: the paper's worked numbers, both sides of its sentences, and random tapes.
 
 mod answers;
+mod bits;
 mod blocks;
 mod book;
 mod cancel;
 mod codec;
+mod convert;
 mod enter;
 mod halt;
+mod judge;
 mod kit;
 mod listing;
 mod modify;
@@ -15,6 +18,7 @@ mod plays;
 mod purge;
 mod replace;
 mod ring;
+mod status;
 mod stocks;
 mod table;
 mod tapes;

@@ -11,7 +11,7 @@ use Rattle.header.proofs.put_header.Tie as tie
 
 -- the runs as fields of bytes
 abbrev runs : List Field
-runs = textAt 0 16 ∷ textAt 16 48 ∷ []
+runs = textAt 0 16 ∷ textAt 16 44 ∷ []
 
 returns : tie.Need-returns
 unfolding unbroken
@@ -22,7 +22,7 @@ returns c =
     let h = start .args .h in
     let put = puts-at runs (moments h & standing h & tt) (start .args .s .now)
     (p1 .put-moments .ensures then p2 .put-standing .ensures then ends)
-    0 64 refl (omega (arith, start .pre)) in
+    0 60 refl (omega (arith, start .pre)) in
     let all = header-runs h in
     (put .0 ∙ put-whole (start .args .s .now) _ (omega (arith, put .1, start .pre)) ∙ all, omega (arith, ap length all, put .1))
 

@@ -1,6 +1,5 @@
 -- Each field is put right behind the last one. Assumes nothing.
 use Rattle.octets.proofs.Proving.{arith, needs, refl}
-use Rattle.octets.specs.Bytes.{digits}
 use Rattle.wire.specs.Layout.{unbroken}
 use Rattle.wire.specs.Layout.{_then_, ends}
 use Rattle.wire.proofs.Puts.{puts-at}
@@ -9,7 +8,7 @@ use Rattle.header.proofs.put_moments.Statement.{statement}
 use Rattle.header.proofs.put_moments.Tie as tie
 
 returns : tie.Need-returns
-unfolding moments unbroken digits
+unfolding moments unbroken
 returns c =
     let p6 = c .before .before in
     let p5 = p6 .before .before .before .before in

@@ -1,9 +1,12 @@
 //! Damage to tables, lists of stocks, marks, ring lengths and entries, mostly right at what the
 //! paper judges.
 
+mod counts;
 mod list;
+mod table;
 
 pub use list::stocks;
+pub use table::{old_table, table};
 
 use super::chance::Chance;
 use super::judged::{self, Field, Judged};
@@ -15,136 +18,9 @@ const EDGE_BYTES: &[u8] = b"\0\x1f !/09:@AZ[`az{\x7f\x80\xff-";
 const BAD_CHARACTERS: &[u8] = b"\0\x1f!/:@[`{\x7f\x80\xff-";
 /// Letters of all fields, and some of none: each is legal in one place and bad in the next.
 const LETTERS: &[u8] = b"BSTEYNyUQXbse \0ARCLHKJVmkaItdzZDOMnh";
-/// 10^18, and the shares of which a chain must stay below.
-const REFERENCES_END: u64 = 10_u64.pow(18);
-const SHARES_END: u32 = 1_000_000;
 /// Every ring length up to this is judged alike.
 const LONGEST_RING: usize = 65_536;
 const SHORTEST_RING: usize = 80;
-
-/// Damages a table once or twice. It may stay sound; both hosts must then agree on more.
-pub fn table(chance: &mut Chance, table: &mut Vec<u8>) {
-    for _ in 0..=chance.below(2) {
-        match chance.below(12) {
-            0 => length(chance, table),
-            1..=5 => header(chance, table),
-            _ => record(chance, table),
-        }
-    }
-}
-
-/// A length that no table, or another table, has.
-fn length(chance: &mut Chance, table: &mut Vec<u8>) {
-    let len = table.len();
-    let other = match chance.below(8) {
-        0 => 0,
-        1 => 63,
-        2 => 64,
-        3 => len.saturating_sub(1),
-        4 => len + 1,
-        5 => len.saturating_sub(80),
-        6 => 64 + 80 * 801,
-        _ => len + 80,
-    };
-    table.resize(other, 0);
-}
-
-fn header(chance: &mut Chance, table: &mut [u8]) {
-    let records = (table.len().saturating_sub(64) / 80) as u32;
-    let any = chance.byte();
-    let place = chance.place(64);
-    let edge = chance.pick(EDGE_BYTES);
-    match chance.below(10) {
-        0 => write(table, 0, &[chance.pick(&[0, 1, 2, 3, 255])]),
-        1 => write(table, 1, &[chance.pick(&[0, 1, 2, 7, 8, 9, 255])]),
-        2 => write(table, 4, &near(chance, records).to_be_bytes()),
-        3 => write(
-            table,
-            8,
-            &chance
-                .pick(&[STAMPS_END - 1, STAMPS_END, u64::MAX])
-                .to_be_bytes(),
-        ),
-        4 => {
-            let references = [0, 1, REFERENCES_END, REFERENCES_END + 1, u64::MAX];
-            write(table, 16, &chance.pick(&references).to_be_bytes());
-        }
-        5 => {
-            let thresholds = [0, 1, SHARES_END, SHARES_END + 1, u32::MAX];
-            write(table, 24, &chance.pick(&thresholds).to_be_bytes());
-        }
-        6 => write(table, 28 + chance.place(32), &[edge]),
-        7 => write(table, chance.pick(&[2, 3, 60, 61, 62, 63]), &[any]),
-        8 => blocks(chance, table),
-        _ => write(table, place, &[any]),
-    }
-}
-
-/// Blocks of all firms, the bit right past them, or the highest one.
-fn blocks(chance: &mut Chance, table: &mut [u8]) {
-    let count = table.get(1).copied().unwrap_or(0).min(8);
-    let past = 1_u16 << count;
-    write(table, 3, &[chance.pick(&[past - 1, past, 0x80]) as u8]);
-}
-
-/// A used record as a rule, since nothing judges the others.
-fn record(chance: &mut Chance, table: &mut [u8]) {
-    let used = table.get(4..8).map_or(0, |count| {
-        count
-            .iter()
-            .fold(0, |number, &byte| number << 8 | usize::from(byte))
-    });
-    let records = table.len().saturating_sub(64) / 80;
-    let rows = if chance.one_in(10) {
-        records
-    } else {
-        used.min(records)
-    };
-    let row = 64 + 80 * chance.place(rows);
-    let any = chance.byte();
-    let shares_at = row + chance.pick(&[16, 20, 24]);
-    let numbers = [0, 1, SHARES_END - 1, SHARES_END, 1 << 31, u32::MAX];
-    match chance.below(10) {
-        0 => write(
-            table,
-            row,
-            &[chance.pick(&[b'L', b'D', b'R', 0, b'l', any])],
-        ),
-        1 | 2 => write(
-            table,
-            row + 1 + chance.place(14),
-            &[chance.pick(EDGE_BYTES)],
-        ),
-        3 | 4 => write(table, shares_at, &chance.pick(&numbers).to_be_bytes()),
-        5 => nudge(chance, table, shares_at),
-        6 => wrap_around(chance, table, row),
-        7 | 8 => write(table, row + 15 + chance.place(65), &[any]),
-        _ => write(table, row + chance.place(80), &[any]),
-    }
-}
-
-/// Executed and self-matched whose sum is right only where it is cut to four bytes.
-fn wrap_around(chance: &mut Chance, table: &mut [u8], row: usize) {
-    let place = table.get(row + 16..row + 20);
-    let liable = u32::from_be_bytes(place.and_then(|p| p.try_into().ok()).unwrap_or([0; 4]));
-    let executed = u32::MAX - chance.below(1 << 31) as u32;
-    let wanted = near(chance, liable);
-    write(table, row + 20, &executed.to_be_bytes());
-    write(
-        table,
-        row + 24,
-        &wanted.wrapping_sub(executed).to_be_bytes(),
-    );
-}
-
-/// Moves a share number by one, which is all that parts live from dead.
-fn nudge(chance: &mut Chance, table: &mut [u8], at: usize) {
-    let Some(place) = table.get(at..at + 4).and_then(|p| p.try_into().ok()) else {
-        return;
-    };
-    let number = u32::from_be_bytes(place);
-    write(table, at, &near(chance, number).to_be_bytes());
-}
 
 /// The number or a neighbour, around the ends too.
 fn near(chance: &mut Chance, number: u32) -> u32 {

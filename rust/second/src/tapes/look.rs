@@ -1,5 +1,7 @@
 //! A look at the bytes of a table and of a list of stocks, good or not, by the paper's offsets.
 
+use super::counts;
+
 /// The bytes and how many records they can show.
 pub struct Look<'a> {
     table: &'a [u8],
@@ -11,7 +13,7 @@ pub struct Look<'a> {
 impl<'a> Look<'a> {
     /// Looks at any bytes; what isn't there reads as zero.
     pub fn at(table: &'a [u8], stocks: &'a [u8]) -> Look<'a> {
-        let room = table.len().saturating_sub(64) / 80;
+        let room = counts::room(table.len());
         let claimed = number(table, 4, 4) as usize;
         Look {
             table,
@@ -158,7 +160,7 @@ impl Row<'_> {
 }
 
 /// The number of so many bytes, or 0 where they aren't all there.
-fn number(from: &[u8], at: usize, len: usize) -> u64 {
+pub fn number(from: &[u8], at: usize, len: usize) -> u64 {
     let place = from.get(at..at + len).unwrap_or(&[]);
     place
         .iter()

@@ -1,6 +1,7 @@
 //! Tables made by hand: sound, but in states that no tape would reach.
 
 use super::chance::Chance;
+use super::counts::{recount, table_len};
 use super::look::Look;
 use super::tokens::{near_token, new_token};
 use super::values::{GOOD_STOCKS, STAMPS_END};
@@ -25,10 +26,12 @@ pub fn sound_table(chance: &mut Chance, records: usize) -> Vec<u8> {
             stored.push(token);
             used_record(chance, token, &firms)
         } else {
-            unused_record(chance)
+            unused_record(chance, &firms)
         };
         table.extend(row);
     }
+    table.resize(table_len(records), 0);
+    recount(&mut table);
     table
 }
 
@@ -55,7 +58,7 @@ fn header(chance: &mut Chance, used: usize) -> Vec<u8> {
     let any_blocks = chance.byte() & (0xff >> (8 - count));
     let blocks = chance.weighted(&[(3, 0), (1, any_blocks)]);
     [
-        [day, count as u8, 0, blocks].as_slice(),
+        [day, count as u8, 1, blocks].as_slice(),
         &(used as u32).to_be_bytes(),
         &stamp.to_be_bytes(),
         &reference.to_be_bytes(),
@@ -120,12 +123,16 @@ fn share_numbers(chance: &mut Chance, live: bool) -> (u32, u32, u32) {
     (open + spent, executed, spent - executed)
 }
 
-/// Anything may stand in an unused record.
-fn unused_record(chance: &mut Chance) -> Vec<u8> {
-    if chance.one_in(2) {
-        return vec![0; 80];
+/// Anything may stand in an unused record, also what looks like a used one.
+fn unused_record(chance: &mut Chance, firms: &[[u8; 4]]) -> Vec<u8> {
+    match chance.below(8) {
+        0..=3 => vec![0; 80],
+        4 => {
+            let token = new_token(chance);
+            used_record(chance, token, firms)
+        }
+        _ => (0..80).map(|_| chance.byte()).collect(),
     }
-    (0..80).map(|_| chance.byte()).collect()
 }
 
 /// Settings for a fresh call: a threshold and firms, good or at their edges.

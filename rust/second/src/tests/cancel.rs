@@ -32,6 +32,7 @@ fn made((executed, self_matched, open): (u32, u32, u32), flags: u8) -> Desk {
     let row = desk.row_mut(0);
     row[16..28].copy_from_slice(shares.map(u32::to_be_bytes).as_flattened());
     row[64] = flags;
+    desk.table = desk.recounted();
     desk
 }
 

@@ -1,6 +1,7 @@
 //! A test's desk: a table, a ring and its marks and a list of stocks, with entries written byte by
 //! byte from the paper.
 
+use crate::tapes::counts::{old_form, recount, table_len};
 use crate::tapes::judged::{Field, Judged};
 use crate::{Told, fresh, read, release, step};
 
@@ -21,7 +22,7 @@ pub struct Desk {
 impl Desk {
     /// A fresh table under threshold 1,000,000 with the firms ABCD and EF.
     pub fn before_open(records: usize) -> Desk {
-        let mut table = vec![0xaa; 64 + 80 * records];
+        let mut table = vec![0xaa; table_len(records)];
         assert_eq!(fresh(&mut table, 1_000_000, &[*b"ABCD", *b"EF  "]), 0);
         Desk {
             table,
@@ -67,8 +68,9 @@ impl Desk {
         self.told(entry).answer
     }
 
-    /// What the step tells. A refusal may change nothing; a done entry moves the last stamp; only h
-    /// touches the list of stocks; and a place is told with 3 only, never the kind's.
+    /// What the step tells. A refusal may change nothing; a done entry moves the last stamp and leaves
+    /// bits and sum as a walk finds them; only h touches the list of stocks; and a place is told with
+    /// 3 only, never the kind's.
     pub fn told(&mut self, entry: &[u8]) -> Told {
         let before = self.clone();
         let told = step(
@@ -104,6 +106,7 @@ impl Desk {
                 entry[1..9],
                 "the entry's stamp becomes the last"
             );
+            assert_eq!(self.table, self.recounted(), "bits and sum are true");
         }
         told
     }
@@ -151,6 +154,23 @@ impl Desk {
     pub fn with_free(mut self, free: usize) -> Desk {
         self.held = self.ring.len() - free;
         self
+    }
+
+    /// The bits behind the records.
+    pub fn bits(&self) -> &[u8] {
+        &self.table[old_form(&self.table).len()..]
+    }
+
+    /// The sum of open shares.
+    pub fn sum(&self) -> u64 {
+        number(&self.table[60..64])
+    }
+
+    /// The table with the bits and the sum of its records, whatever they were.
+    pub fn recounted(&self) -> Vec<u8> {
+        let mut table = self.table.clone();
+        recount(&mut table);
+        table
     }
 
     pub fn row(&self, place: usize) -> &[u8] {

@@ -281,7 +281,7 @@ fn flags_and_the_last_byte_of_the_old_record_stay_and_the_new_ones_are_zero() {
 #[test]
 fn a_new_record_covers_whatever_stood_there() {
     let mut desk = Desk::worked();
-    desk.table[64 + 80..].fill(0xee);
+    (1..8).for_each(|place| desk.row_mut(place).fill(0xee));
     desk.sent(&replace(4, "A", "B", 500));
     assert_eq!(desk.row(1)[64], 0);
     assert_eq!(desk.row(1)[79], 0);

@@ -1,6 +1,7 @@
 //! The table: fresh ones, and both sides of every sentence about soundness.
 
 use super::kit::*;
+use crate::tapes::counts::{recount, table_len};
 use crate::{Host, fresh};
 
 fn sound(table: &[u8]) -> bool {
@@ -16,10 +17,10 @@ fn with(table: &[u8], at: usize, bytes: &[u8]) -> Vec<u8> {
 
 #[test]
 fn a_fresh_table_is_the_papers() {
-    let mut table = vec![0xcc; 64 + 160];
+    let mut table = vec![0xcc; 64 + 160 + 1];
     assert_eq!(fresh(&mut table, 77, &[*b"A   ", *b"ZZZZ"]), 0);
     let header = [
-        [0, 2, 0, 0, 0, 0, 0, 0].as_slice(),
+        [0, 2, 1, 0, 0, 0, 0, 0].as_slice(),
         &0_u64.to_be_bytes(),
         &1_u64.to_be_bytes(),
         &77_u32.to_be_bytes(),
@@ -27,7 +28,7 @@ fn a_fresh_table_is_the_papers() {
         &[0; 28],
     ]
     .concat();
-    assert_eq!(table, [header.as_slice(), &[0; 160]].concat());
+    assert_eq!(table, [header.as_slice(), &[0; 161]].concat());
     assert!(sound(&table));
 }
 
@@ -37,11 +38,15 @@ fn fresh_refuses_a_length_before_settings() {
         (0, 10),
         (63, 10),
         (64, 10),
-        (143, 10),
-        (144, 0),
-        (145, 10),
-        (64_064, 0),
-        (64_144, 10),
+        (65, 10),
+        (144, 10), // as long as the old form
+        (145, 0),
+        (146, 10),
+        (64_064, 10),
+        (64_163, 10),
+        (64_164, 0),
+        (64_165, 10),
+        (64_245, 10),
     ] {
         let mut table = vec![9; len];
         assert_eq!(fresh(&mut table, 1, &[*b"A   "]), answer, "length {len}");
@@ -74,33 +79,39 @@ fn fresh_refuses_bad_settings() {
         (5, vec![firm, *b"[   "], 3),
     ];
     for (threshold, firms, answer) in cases {
-        let mut table = vec![9; 144];
+        let mut table = vec![9; 145];
         assert_eq!(
             fresh(&mut table, threshold, &firms),
             answer,
             "{threshold} {firms:?}"
         );
-        assert!(answer == 0 || table == vec![9; 144]);
+        assert!(answer == 0 || table == vec![9; 145]);
     }
 }
 
+/// 64 bytes, 80 a record and a bit a record, counted up a record at a time: each eighth begins a byte.
+fn lengths() -> Vec<usize> {
+    let mut length = 64;
+    let next = |record: usize| {
+        length += if record.is_multiple_of(8) { 81 } else { 80 };
+        length
+    };
+    (0..800).map(next).collect()
+}
+
 #[test]
-fn lengths_are_64_and_80_a_record() {
-    let table = Desk::before_open(800).table;
-    for (len, good) in [
-        (64_064, true),
-        (64_063, false),
-        (143, false),
-        (144, true),
-        (145, false),
-        (64, false),
-        (0, false),
-    ] {
-        assert_eq!(sound(&table[..len]), good, "length {len}");
+fn lengths_are_64_and_80_and_a_bit_a_record() {
+    let lengths = lengths();
+    assert_eq!(lengths[..2], [145, 225]);
+    assert_eq!(lengths[7..9], [705, 786]);
+    assert_eq!(lengths[799], 64_164);
+    assert!((1..=800).map(table_len).eq(lengths.iter().copied()));
+    // A fresh table of 800 records has nothing but zeros behind its header.
+    let mut long = Desk::before_open(800).table;
+    long.resize(table_len(802), 0);
+    for len in 0..=long.len() {
+        assert_eq!(sound(&long[..len]), lengths.contains(&len), "length {len}");
     }
-    let mut long = table.clone();
-    long.resize(64 + 80 * 801, 0);
-    assert!(!sound(&long));
 }
 
 /// Whether the worked table is sound with these bytes written over its header.
@@ -120,7 +131,10 @@ fn the_headers_bytes_are_judged() {
         (1, b"\x03", false), // a firm of zeros
         (1, b"\x09", false),
         (1, b"\xff", false),
-        (2, b"\x01", false),
+        (2, b"\0", false), // the old form
+        (2, b"\x01", true),
+        (2, b"\x02", false),
+        (2, b"\xff", false),
         (3, b"\x01", true), // two firms, two bits
         (3, b"\x03", true),
         (3, b"\x04", false),
@@ -132,8 +146,12 @@ fn the_headers_bytes_are_judged() {
         (36, b"A   ", false),
         (36, b"    ", false), // spaces aren't zeros
         (59, b"\x01", false),
-        (60, b"\x01", false),
-        (63, b"\x01", false),
+        (60, b"\0\0\x01\x90", true), // 400 shares are open
+        (60, b"\0\0\x01\x91", false),
+        (60, b"\0\0\x01\x8f", false),
+        (60, b"\0\0\0\0", false),
+        (60, b"\x90\x01\0\0", false),
+        (60, b"\x80\0\x01\x90", false),
     ] {
         assert_eq!(header_sound(at, bytes), good, "{bytes:?} at {at}");
     }
@@ -142,7 +160,7 @@ fn the_headers_bytes_are_judged() {
 #[test]
 fn the_headers_numbers_are_judged() {
     for (at, number, good) in [
-        (4, 0, true),
+        (4, 0, false), // and yet a bit and shares
         (4, 1, true),
         (4, 2, false), // the second record holds no token
         (4, u32::MAX, false),
@@ -176,7 +194,7 @@ fn the_headers_numbers_are_judged() {
 
 #[test]
 fn eight_firms_fill_the_places() {
-    let mut table = vec![0; 144];
+    let mut table = vec![0; 145];
     assert_eq!(fresh(&mut table, 5, &[*b"ABCD"; 8]), 0);
     assert!(sound(&table));
     assert!(!sound(&with(&table, 1, &[7])));
@@ -186,7 +204,7 @@ fn eight_firms_fill_the_places() {
 #[test]
 fn blocks_are_bits_of_the_firms_that_there_are() {
     for count in 1..=8_u32 {
-        let mut table = vec![0; 144];
+        let mut table = vec![0; 145];
         let firms = vec![*b"ABCD"; count as usize];
         assert_eq!(fresh(&mut table, 5, &firms), 0);
         assert_eq!(table[3], 0, "a fresh table blocks none");
@@ -209,7 +227,7 @@ fn all_records_may_be_used() {
     assert!(!sound(&with(&desk.table, 4, &3_u32.to_be_bytes())));
 }
 
-/// Whether a record of this state, liable, executed and self-matched is sound.
+/// Whether a record of this state, liable, executed and self-matched is sound, counted as it is.
 fn shares_sound(state: u8, numbers: [u32; 3]) -> bool {
     let mut desk = Desk::worked();
     let row = desk.row_mut(0);
@@ -217,6 +235,7 @@ fn shares_sound(state: u8, numbers: [u32; 3]) -> bool {
     for (place, number) in row[16..28].chunks_exact_mut(4).zip(numbers) {
         place.copy_from_slice(&number.to_be_bytes());
     }
+    recount(&mut desk.table);
     sound(&desk.table)
 }
 

@@ -3,7 +3,9 @@
 use std::collections::BTreeSet;
 use std::ops::Range;
 
+use super::judge::sound_by_bytes;
 use super::kit::{Desk, O, cancel, first_bad, listed, number, system, told_at};
+use crate::tapes::counts::{old_form, recount, table_len};
 use crate::tapes::judged::{ENTRIES, of_entry, of_message, places};
 use crate::tapes::{Chance, Tapes, damage, good_list, message, settings, sound_table, worn_out};
 use crate::{Host, Outbox, Stocks, Told, echo, fresh, listing, read, release, step};
@@ -24,7 +26,7 @@ impl Run {
         let mut chance = Chance::new(seed);
         let records = 1 + chance.place(40);
         let table = if chance.one_in(3) {
-            let mut table = vec![0; 64 + 80 * records];
+            let mut table = vec![0; table_len(records)];
             let threshold = chance.pick(&[1_000_000, 1_000_000, 600, 2]);
             assert_eq!(fresh(&mut table, threshold, &[*b"ABCD", *b"EF  "]), 0);
             table
@@ -129,14 +131,17 @@ impl Run {
             "a done step leaves a sound table"
         );
         assert_eq!(self.table[8..16], entry[1..9]);
-        assert_eq!(self.table[24..64], table[24..64], "settings never change");
+        assert_eq!(self.table[24..60], table[24..60], "settings never change");
+        let mut counted = self.table.clone();
+        recount(&mut counted);
+        assert_eq!(self.table, counted, "bits and sum are true");
         assert_eq!(self.table[3], blocks_after(table, entry));
         let (used, used_before) = (number(&self.table[4..8]), number(&table[4..8]));
         assert!(used == used_before || used == used_before + 1);
-        let unused_from = 64 + 80 * used as usize;
+        let unused = 64 + 80 * used as usize..old_form(table).len();
         assert_eq!(
-            self.table[unused_from..],
-            table[unused_from..],
+            self.table[unused.clone()],
+            table[unused],
             "unused records stay"
         );
         let len = self.ring.len();
@@ -330,45 +335,6 @@ fn images_of_sound_tables_are_the_tables() {
     }
 }
 
-/// Soundness once more, straight from the bytes: a second judge for the first one.
-fn sound_by_bytes(table: &[u8]) -> bool {
-    if table.len() < 144 || !(table.len() - 64).is_multiple_of(80) || table.len() > 64_064 {
-        return false;
-    }
-    let shaped = |firm: &[u8]| {
-        (1..=4).any(|n| {
-            firm[..n].iter().all(|b| (65..=90).contains(b)) && firm[n..].iter().all(|&b| b == 32)
-        })
-    };
-    let (day, count) = (table[0], usize::from(table[1]));
-    let firms: Vec<&[u8]> = table[28..60].chunks(4).collect();
-    let used = number(&table[4..8]);
-    let header = day < 3
-        && (1..=8).contains(&count)
-        && firms[..count].iter().all(|firm| shaped(firm))
-        && firms[count..].iter().all(|firm| number(firm) == 0)
-        && number(&table[2..3]) + number(&table[60..64]) == 0
-        && number(&table[3..4]) < 1 << count
-        && used <= (table.len() as u64 - 64) / 80
-        && number(&table[8..16]) < 86_400_000_000_000
-        && number(&table[16..24]).wrapping_sub(1) < 10_u64.pow(18)
-        && number(&table[24..28]).wrapping_sub(1) < 1_000_000;
-    header && table[64..].chunks(80).take(used as usize).all(sound_row)
-}
-
-fn sound_row(row: &[u8]) -> bool {
-    let legal = b"ABCDEFGHIJKLMNOPQRSTUVWXYZabcdefghijklmnopqrstuvwxyz0123456789 ";
-    let spent = number(&row[20..24]) + number(&row[24..28]);
-    let liable = number(&row[16..20]);
-    row[1..15].iter().all(|b| legal.contains(b))
-        && match row[0] {
-            76 => spent < liable && liable < 1_000_000,
-            68 => spent == liable && liable < 1_000_000,
-            82 => row[15..].iter().all(|&b| b == 0),
-            _ => false,
-        }
-}
-
 #[test]
 fn damaged_tables_are_judged_alike_by_two_judges_and_never_changed() {
     let mut chance = Chance::new(21);
@@ -383,7 +349,7 @@ fn damaged_tables_are_judged_alike_by_two_judges_and_never_changed() {
         let (mut at, mut held) = (3, 4);
         let told = step(&mut table, &mut ring, &mut at, &mut held, &mut [], &entry);
         let answer = told.answer;
-        assert_eq!(answer != 10, sound_by_bytes(&before));
+        assert_eq!(answer != 10, sound_by_bytes(&before, false));
         if answer == 10 {
             unsound += 1;
             assert_eq!((table, ring, at, held), (before, [0x5a; 80], 3, 4));
@@ -451,7 +417,7 @@ fn a_tape_can_be_made_for_any_bytes() {
 /// The listing's host is the step's host.
 #[test]
 fn a_listing_counts_what_steps_do() {
-    let mut table = vec![0; 64_064];
+    let mut table = vec![0; 64_164];
     assert_eq!(fresh(&mut table, 1_000_000, &[*b"ABCD"]), 0);
     let (mut ring, mut stocks) = (vec![0; 4_096], listed(&[(b"ABC     ", b'T')]));
     let (mut at, mut held, mut tapes) = (0, 0, Tapes::new(77));
@@ -506,9 +472,10 @@ fn messages_and_settings_are_good_and_bad_in_turn() {
         echoed[usize::from(answer)] += 1;
 
         let (threshold, firms) = settings(&mut chance);
-        let mut table = [0x55; 144];
+        let mut table = [0x55; 145];
         let answer = fresh(&mut table, threshold, &firms);
-        assert_eq!(answer == 0, sound_by_bytes(&table), "{threshold} {firms:?}");
+        let sound = sound_by_bytes(&table, false);
+        assert_eq!(answer == 0, sound, "{threshold} {firms:?}");
         freshened[usize::from(answer)] += 1;
     }
     assert!(

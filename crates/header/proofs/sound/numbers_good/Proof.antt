@@ -9,10 +9,10 @@ use Rattle.header.proofs.sound.numbers_good.Tie as tie
 returns : tie.Need-returns
 unfolding headerOf
 returns c =
-    let zero = c .before .before .before .before in
-    let start = zero .before .before .before .before in
-    rw (c .are-zero2 .ensures, zero .are-zero .ensures, start .pre .1)
+    let form = c .before .before .before in
+    let start = form .before .before .before .before in
+    rw (form .byte-at .ensures, start .pre .1)
     (in-row true (numberTests (start .args .s .now)) ∙ sym (number-tests (start .args .s .now)))
 
 pub numbers-good-spec : {M : Type 1} → statement M
-numbers-good-spec = tie.close (tie.spec (search needs) (search needs) (search needs) returns)
+numbers-good-spec = tie.close (tie.spec (search needs) (search needs) returns)

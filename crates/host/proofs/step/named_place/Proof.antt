@@ -1,5 +1,8 @@
--- Where the token is found, or what a purge is about, or behind the used records. Assumes nothing.
-use Rattle.octets.proofs.Proving.{answered, leb-true, unasked}
+-- Where the token is found, or what a purge is about, or behind the used records. In a sound table the bits lead to what a purge is about. Assumes
+-- nothing.
+use Rattle.octets.proofs.Proving.{_∙_, answered, leb-true, unasked}
+use Rattle.orders.proofs.Wanting.{wanted-live}
+use Rattle.table.proofs.Finding.{by-the-bits}
 use Rattle.tape.specs.Entries.{namesOrder}
 use Rattle.tape.proofs.Formed.{purge-long}
 use Rattle.host.specs.Step.{namedPlace}
@@ -16,14 +19,14 @@ returns c = rw (answered (c .before .before .before .names-order .ensures) (c .b
 
 -- what begins as a w has its length
 purge-of-requires : tie.Need-purge-of-requires
-purge-of-requires c κs = purge-long _ (c .before .before .before .before .before .before .pre) (c .before .purges .ensures) (c .if2 .taken)
+purge-of-requires c κs = purge-long _ (c .before .before .before .before .before .before .pre .1) (c .before .purges .ensures) (c .if2 .taken)
 
 returns-2 : tie.Need-returns-2
 unfolding namedPlace
 returns-2 c =
     let asked = c .before .before .before in
     rw (answered (asked .before .before .before .names-order .ensures) (asked .before .before .if1 .left), answered (asked .before .purges .ensures) (asked .if2 .taken), ← c .before .before .purge-of .ensures, ← c .before .wanted-by .ensures)
-    (c .find-wanted .ensures)
+    (c .find-wanted .ensures ∙ by-the-bits _ (asked .before .before .before .before .before .before .pre .0) _ (wanted-live _))
 
 returns-3 : tie.Need-returns-3
 unfolding namedPlace

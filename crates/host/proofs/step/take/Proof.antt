@@ -20,7 +20,7 @@ named-place-requires : tie.Need-named-place-requires
 named-place-requires c κs =
     let stamped = c .before .before .before in
     let start = stamped .before .before .before .before .before .before .before in
-    judged-good _ (start .pre .1 .1 .1) .0
+    (start .pre .0, judged-good _ (start .pre .1 .1 .1) .0)
 
 comes-to-requires : tie.Need-comes-to-requires
 comes-to-requires c κs =

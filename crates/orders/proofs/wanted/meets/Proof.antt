@@ -7,7 +7,7 @@ returns : tie.Need-returns
 returns c = rw (c .before .enum-told .given .1) (c .has-firm .ensures)
 
 returns-2 : tie.Need-returns-2
-returns-2 c = rw (c .before .before .enum-told2 .given .1, ← c .before .has-firm2 .ensures, ← c .has-stock .ensures)
+returns-2 c = rw (c .before .enum-told2 .given .1) (c .has-both .ensures)
 
 pub meets-spec : {M : Type 1} → statement M
-meets-spec = tie.close (tie.spec (λ c. search needs) (λ c κs. search needs) (λ c. search needs) (λ c κs. search needs) (λ c κs. search needs) returns returns-2)
+meets-spec = tie.close (tie.spec (λ c. search needs) (λ c κs. search needs) (λ c. search needs) (λ c κs. search needs) returns returns-2)

@@ -1,16 +1,13 @@
--- The part from a record's place on, as long as a record. Assumes nothing.
-use Rattle.octets.proofs.Proving.{_≡_, add-sub-cancel-left, needs, refl}
-use Rattle.octets.proofs.Laws.{length-part}
-use Rattle.table.specs.Table.{recordBytes}
+-- A record that has its bit lies in the table. Assumes nothing.
+use Rattle.table.proofs.Stored.{record-fits}
 use Rattle.table.proofs.places.record_bytes.Statement.{statement}
 use Rattle.table.proofs.places.record_bytes.Tie as tie
 
+record-at-requires : tie.Need-record-at-requires
+record-at-requires c κs = record-fits (c .before .args .table .now) (c .before .args .i) (c .before .pre)
+
 returns : tie.Need-returns
-unfolding recordBytes
-returns c =
-    let place = c .before .record-place in
-    let long = length-part (c .before .before .before .args .table .now) (place .result) 80 (place .ensures .1) in
-    rw (add-sub-cancel-left, long, place .ensures .0) (refl, refl)
+returns c = c .record-at .ensures
 
 pub record-bytes-spec : {M : Type 1} → statement M
-record-bytes-spec = tie.close (tie.spec (search needs) (search needs) (search needs) (search needs) (search needs) returns)
+record-bytes-spec = tie.close (tie.spec record-at-requires returns)

@@ -1,5 +1,5 @@
--- No record in a table that has no whole header. Assumes nothing.
-use Rattle.octets.proofs.Proving.{_-_, _≡_, arith, length, needs, refl}
+-- No record in a table that has no whole header; else eight for each 641 bytes, and as many of the rest as it has room for. Assumes nothing.
+use Rattle.octets.proofs.Proving.{_-_, _≡_, arith, length, needs}
 use Rattle.table.specs.Table.{recordsIn}
 use Rattle.table.proofs.places.records_in.Statement.{statement}
 use Rattle.table.proofs.places.records_in.Tie as tie
@@ -12,7 +12,7 @@ returns c =
 
 returns-2 : tie.Need-returns-2
 unfolding recordsIn
-returns-2 c = refl
+returns-2 c = omega arith
 
 pub records-in-spec : {M : Type 1} → statement M
-records-in-spec = tie.close (tie.spec returns (search needs) returns-2)
+records-in-spec = tie.close (tie.spec returns (search needs) (search needs) (search needs) (search needs) returns-2)

@@ -1,4 +1,4 @@
--- The header is put over the first 64 bytes, which are lent whole. Assumes nothing.
+-- The header is put over the bytes before the sum, which are lent whole. Assumes nothing.
 use Rattle.octets.proofs.Proving.{le-leb, lt-leb, needs}
 use Rattle.octets.proofs.Laws.{put-lent}
 use Rattle.table.specs.Table.{storeHeader}
@@ -10,7 +10,7 @@ unfolding storeHeader
 returns c =
     let there = c .before .before .before .before in
     let e = c .before .before .put-header .ensures in
-    rw (le-leb 64 _ (there .if1 .taken)) (put-lent (there .before .before .args .table .now) 0 64 _ _ (e .0) (e .1))
+    rw (le-leb 64 _ (there .if1 .taken)) (put-lent (there .before .before .args .table .now) 0 60 _ _ (e .0) (e .1))
 
 returns-2 : tie.Need-returns-2
 unfolding storeHeader

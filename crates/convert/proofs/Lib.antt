@@ -1,0 +1,10 @@
+pub mod Opened
+pub mod Examples
+pub mod Former
+pub mod Carried
+pub mod Reading
+pub mod Restored
+pub mod Answered
+pub mod Converting
+pub mod Settled
+pub mod Unique

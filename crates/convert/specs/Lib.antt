@@ -1,0 +1,4 @@
+pub mod Old
+pub mod Convert
+pub mod Converted
+pub mod Example
