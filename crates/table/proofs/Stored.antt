@@ -15,7 +15,7 @@ use Rattle.header.specs.Header.{headerOf, headerBytes}
 use Rattle.header.specs.declared.Header.{Header}
 use Rattle.header.specs.Whole.{WholeHeader}
 use Rattle.header.proofs.Spelled.{length-header, header-again}
-use Rattle.table.specs.Table.{recordsIn, recordPlace, HasRecord, recordBytes, headBytes, header, orderAt, bitBytes, isMarked, openSum, withMark, withOpenSum, openAt, openBefore, counted, storeRecord, storeOrder, storeHeader}
+use Rattle.table.specs.Table.{recordsIn, recordPlace, HasRecord, recordBytes, headBytes, header, usedIn, orderAt, bitBytes, isMarked, openSum, withMark, withOpenSum, openAt, openBefore, counted, storeRecord, storeOrder, storeHeader}
 
 -- ---- places
 
@@ -31,6 +31,11 @@ head-there t h = rw (le-ltb (length t) headerSize h)
 pub same-records : (t u : List ℕ) → length u ≡ length t → recordsIn u ≡ recordsIn t
 unfolding recordsIn
 same-records t u long = ap (λ (n : ℕ). 8 * (n - headerSize) / (8 * recordSize + 1)) long
+
+-- no more records are used than there are
+pub used-within : (t : List ℕ) → usedIn t ≤ recordsIn t
+unfolding usedIn
+used-within t = omega arith
 
 -- the bits stand behind the records, and there is one for each
 pub bits-there : (t : List ℕ) → headerSize ≤ length t → headerSize + recordSize * recordsIn t ≤ length t

@@ -4,8 +4,8 @@ use Rattle.octets.proofs.Below.{both}
 use Rattle.octets.proofs.First.{first-only, none-only}
 use Rattle.orders.specs.Wanted.{isWanted}
 use Rattle.orders.specs.declared.wanted.Wanted.{Wanted}
-use Rattle.table.specs.Table.{recordsIn, usedIn, orderAt, bitBytes, isMarked, firstMarked}
-use Rattle.table.proofs.Stored.{covers, few-bits}
+use Rattle.table.specs.Table.{usedIn, orderAt, bitBytes, isMarked, firstMarked}
+use Rattle.table.proofs.Stored.{used-within, covers, few-bits}
 use Rattle.table.proofs.Eight.{eight-found, eight-none}
 use Rattle.table.proofs.search.find_wanted.Statement.{statement}
 use Rattle.table.proofs.search.find_wanted.Tie as tie
@@ -20,10 +20,6 @@ Inv-loop table wanted n end at₀ at =
 abbrev μ-loop : tie.MeasureT-loop
 μ-loop table wanted n end at₀ at = end - at
 
-within : (t : List ℕ) → usedIn t ≤ recordsIn t
-unfolding usedIn
-within t = omega arith
-
 -- one of the first n that does not pass is not marked or not wanted
 failing : (t : List ℕ) (wanted : Wanted) (n j : ℕ) → j < n → passes t wanted n j ≡ false → (isMarked t j && isWanted wanted (orderAt t j)) ≡ false
 failing t wanted n j l e = ap (λ (b : Bool). isMarked t j && (b && isWanted wanted (orderAt t j))) (sym (lt-ltb j n l)) ∙ e
@@ -35,7 +31,7 @@ among-eight-requires : tie.Need-among-eight-requires Inv-loop μ-loop
 among-eight-requires c κs =
     let l = c .before .loop in
     let t = c .before .before .before .before .before .args .table .now in
-    (omega (arith, l .inv .0, within t), omega (arith, l .inv .1))
+    (omega (arith, l .inv .0, used-within t), omega (arith, l .inv .1))
 
 mul-if1 : tie.Need-mul-if1 Inv-loop μ-loop
 mul-if1 c =
@@ -78,7 +74,7 @@ returns-2 c =
     let l = c .before .loop in
     let n = c .before .before .before .used .result in
     let t = start .args .table .now in
-    let all = covers t n (omega (arith, l .inv .0, within t)) in
+    let all = covers t n (omega (arith, l .inv .0, used-within t)) in
     sym (rw (← l .inv .0)
     (none-only (λ i. isMarked t i && isWanted (start .args .wanted) (orderAt t i)) n
     (λ j k. failing t (start .args .wanted) n j k (l .inv .3 j (omega (arith, k, all, l .inv .1))))))

@@ -1,27 +1,23 @@
 -- The walk, and where it finds nothing wrong, the bits and the sum. Assumes nothing.
-use Rattle.octets.proofs.Proving.{Bool, List, _∙_, _≡_, _≤_, ap, arith, needs, sym, true, unasked, ℕ}
+use Rattle.octets.proofs.Proving.{Bool, List, _∙_, _≡_, ap, arith, needs, sym, true, unasked, ℕ}
 use Rattle.octets.specs.Choice.{pick, allBelow}
 use Rattle.orders.specs.Sound.{recordSound}
-use Rattle.table.specs.Table.{recordsIn, recordBytes, usedIn, sumBelow, openAt, sumGood}
+use Rattle.table.specs.Table.{recordBytes, sumBelow, openAt, sumGood}
 use Rattle.table.specs.Walk.{Found, foundIn}
-use Rattle.table.proofs.Stored.{bits-there}
+use Rattle.table.proofs.Stored.{used-within, bits-there}
 use Rattle.table.proofs.Soundness.{of-size, head-fits}
 use Rattle.table.proofs.Judging.{bits-split}
 use Rattle.table.proofs.sound.records_sound.Statement.{statement}
 use Rattle.table.proofs.sound.records_sound.Tie as tie
 
-within : (t : List ℕ) → usedIn t ≤ recordsIn t
-unfolding usedIn
-within t = omega arith
-
 walk-requires : tie.Need-walk-requires
 walk-requires c κs =
     let t = c .before .before .args .table .now in
     let size = of-size t (c .before .before .pre) in
-    (omega (arith, within t, c .used .ensures, bits-there t (head-fits t size)), omega (arith, within t, c .used .ensures, size .most))
+    (omega (arith, used-within t, c .used .ensures, bits-there t (head-fits t size)), omega (arith, used-within t, c .used .ensures, size .most))
 
 bits-agree-requires : tie.Need-bits-agree-requires
-bits-agree-requires c κs = omega (arith, within (c .before .before .before .before .args .table .now), c .before .before .used .ensures)
+bits-agree-requires c κs = omega (arith, used-within (c .before .before .before .before .args .table .now), c .before .before .used .ensures)
 
 open-sum-requires : tie.Need-open-sum-requires
 open-sum-requires c κs =
@@ -47,7 +43,7 @@ returns c =
     let used = walked .before .used .ensures in
     let t = walked .before .before .before .args .table .now in
     let ok = agreed .before .if1 .taken in
-    rw (bits-split t (within t), ← used, ← all-told t _ (walked .walk .ensures), ok, agreed .bits-agree .ensures, clear .clear-from .ensures, clear .before .bit-bytes .ensures, c .before .open-sum .ensures, sum-told t _ (walked .walk .ensures) ok)
+    rw (bits-split t (used-within t), ← used, ← all-told t _ (walked .walk .ensures), ok, agreed .bits-agree .ensures, clear .clear-from .ensures, clear .before .bit-bytes .ensures, c .before .open-sum .ensures, sum-told t _ (walked .walk .ensures) ok)
 
 returns-2 : tie.Need-returns-2
 returns-2 c =
