@@ -8,11 +8,9 @@ use Rattle.wire.specs.Text.{tokenByte}
 use Rattle.wire.specs.Letters.{live, dead, rejectedToken}
 use Rattle.wire.specs.Limits.{tokenSize}
 use Rattle.wire.specs.Layout.{badTokenByte, badPlace, firstBadPlace, noBadPlace}
-use Rattle.wire.specs.Shares.{_isBelow_, _equals_}
 use Rattle.wire.proofs.NoneBad.{legalToken, none-of-both, token-bytes}
-use Rattle.orders.specs.Counts.{gone}
 use Rattle.orders.specs.Order.{Order, recordLayout, orderOf}
-use Rattle.orders.specs.Sound.{liableGood, stateSound}
+use Rattle.orders.specs.Sound.{stateSound, countedSound}
 
 -- ---- a record's token
 
@@ -51,10 +49,8 @@ module _ (s : List ℕ) (o : Order) where
   state-rejected e = rw e
 
   pub state-counted : (o .state ≡ rejectedToken → ⊥)
-      → stateSound s o
-      ≡ (eqb (o .state) live && (gone (o .shares) isBelow o .shares .liable) && liableGood (o .shares)
-      || eqb (o .state) dead && (gone (o .shares) equals o .shares .liable) && liableGood (o .shares))
-  unfolding stateSound
+      → stateSound s o ≡ countedSound (o .state) (o .shares)
+  unfolding stateSound countedSound
   state-counted n =
       two-cases _ _ _ _ _ _ (λ e. ap (λ (k : ℕ). eqb k dead) (eqb-true (o .state) live e)) (ne-eqb (o .state) rejectedToken n)
       ∙ ap₂ _||_ (sym (and-assoc (eqb (o .state) live) _ _)) (sym (and-assoc (eqb (o .state) dead) _ _))

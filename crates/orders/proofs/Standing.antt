@@ -1,8 +1,10 @@
 -- What a sound record is, sentence by sentence of the paper, and back; and which orders are spelled as sound records. Assumes nothing.
-use Rattle.octets.proofs.Proving.{Bool, List, _&&_, _+_, _<_, _∙_, _≡_, _≤_, _⊎_, ap, arith, drop, drop-at, eq-eqb, eqb, eqb-true, false, false≢true, inl, inr, le-leb, leb, leb-true, length, lt-ltb, ltb, ltb-true, refl, subst, sym, true, ℕ}
+use Rattle.octets.proofs.Proving.{Bool, List, _&&_, _+_, _<_, _∙_, _≡_, _≤_, _⊎_, ap, arith, drop, drop-at, eq-eqb, eqb, eqb-true, false, false≢true, inl, inr, le-leb, leb, leb-true, length, lt-ltb, ltb, ltb-true, refl, sub-self, subst, sym, true, ℕ}
 use Rattle.octets.specs.Bytes.{allAre, digits, numberOf, numberFrom}
 use Rattle.octets.proofs.Below.{both}
-use Rattle.octets.specs.Choice.{_⇒_⨾_}
+use Rattle.octets.specs.Choice.{pick, _⇒_⨾_}
+use Rattle.wire.specs.Shares.{removed}
+use Rattle.wire.specs.declared.shares.Removed.{Removed}
 use Rattle.wire.specs.Letters.{live, dead, rejectedToken}
 use Rattle.wire.specs.Limits.{tokenSize}
 use Rattle.wire.specs.Layout.{noBadPlace}
@@ -10,7 +12,7 @@ use Rattle.wire.proofs.NoneBad.{legalToken}
 use Rattle.orders.specs.Limits.{mostShares}
 use Rattle.orders.specs.Counts.{gone, openShares, newCounts}
 use Rattle.orders.specs.Order.{Order, recordLayout, orderOf, orderBytes, noOrder, isLive, openOf, rejectedOrder}
-use Rattle.orders.specs.Sound.{liableGood, stateSound, recordSound}
+use Rattle.orders.specs.Sound.{Verdict, liableGood, stateSound, recordSound, unsound, stateVerdict}
 use Rattle.orders.specs.Whole.{WholeOrder}
 use Rattle.orders.proofs.Judged.{record-token}
 use Rattle.orders.proofs.Spelled.{order-again}
@@ -66,6 +68,15 @@ pub to-record : (s : List ℕ) → RecordGood s → recordSound s ≡ true
 unfolding recordSound
 to-record s g = rw (record-token s ∙ g .token) (to-state s (orderOf s) (g .standing))
 
+-- what is counted as open of it
+open-of-live : (o : Order) → o .state ≡ live → openShares (o .shares) ≡ openOf o
+unfolding openOf isLive
+open-of-live o e = rw e
+
+open-of-dead : (o : Order) → o .state ≡ dead → gone (o .shares) .0 ≡ o .shares .liable .0 → openShares (o .shares) ≡ openOf o
+unfolding openOf isLive openShares
+open-of-dead o e spent = rw (e, spent, sub-self)
+
 -- of which no more is open than an order may have
 pub open-most : (s : List ℕ) → RecordGood s → openOf (orderOf s) .0 ≤ mostShares
 unfolding openOf isLive openShares
@@ -75,6 +86,30 @@ open-most s g = by (g .standing)
     by (inl l) = rw (l .0) (omega (arith, l .2))
     by (inr (inl d)) = rw (d .0) (omega arith)
     by (inr (inr r)) = rw (r .0) (omega arith)
+
+-- ---- what judging it finds
+
+module _ (s : List ℕ) where
+  pub verdict-rejected : (b : Bool) → orderOf s .state ≡ rejectedToken → b ≡ stateSound s (orderOf s) → _≡_ {A = Verdict} (record { ok = b; shares = removed 0 }) (stateVerdict s)
+  unfolding stateVerdict openOf isLive
+  verdict-rejected b e sounds = rw (← sounds, e) (by b)
+    where
+      by : (x : Bool) → _≡_ {A = Verdict} (record { ok = x; shares = removed 0 }) (record { ok = x; shares = pick x (removed 0) (removed 0) })
+      by true = refl
+      by false = refl
+
+  pub verdict-sound : (orderOf s .state ≡ rejectedToken → ⊥) → stateSound s (orderOf s) ≡ true → _≡_ {A = Verdict} (record { ok = true; shares = openShares (orderOf s .shares) }) (stateVerdict s)
+  unfolding stateVerdict
+  verdict-sound n sounds = rw sounds (ap (λ (x : Removed). record { ok = true; shares = x }) (by (of-state s (orderOf s) sounds)))
+    where
+      by : Live (orderOf s) ⊎ (Dead (orderOf s) ⊎ Rejected s (orderOf s)) → openShares (orderOf s .shares) ≡ openOf (orderOf s)
+      by (inl l) = open-of-live (orderOf s) (l .0)
+      by (inr (inl d)) = open-of-dead (orderOf s) (d .0) (d .1)
+      by (inr (inr r)) = absurd (n (r .0))
+
+  pub verdict-unsound : stateSound s (orderOf s) ≡ false → unsound ≡ stateVerdict s
+  unfolding stateVerdict unsound
+  verdict-unsound fails = rw fails
 
 -- ---- orders
 

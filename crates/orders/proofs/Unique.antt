@@ -21,7 +21,7 @@ order-unique = (λ κs a. settled) also (λ κs a. settled) also (λ κs a. sett
 pub record-unique : Settled orders.record.order_of.Reads.Post and SettledLent orders.record.put_order.Reads.Post
 record-unique = (λ κs a. settled) also (λ κs a. lent-first)
 
-pub sound-unique : Settled orders.sound.record_sound.Reads.Post
+pub sound-unique : Settled orders.sound.judge_record.Reads.Post
 sound-unique κs a = settled
 
 pub wanted-unique : Settled orders.wanted.is_wanted.Reads.Post

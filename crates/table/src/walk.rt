@@ -8,8 +8,7 @@ ghost use Rattle.orders.specs.Limits.{recordSize};
 ghost use Rattle.table.specs.Limits.{mostRecords};
 ghost use Rattle.table.specs.Walk.{foundIn};
 use crate::places::record_at;
-use orders::live::open_in;
-use orders::sound::record_sound;
+use orders::sound::judge_record;
 
 pub struct Found {
     pub ok: bool,
@@ -24,9 +23,9 @@ pub fn walk(table: &[u8], n: usize) -> Found
     let mut sum: u64 = 0;
     let mut i: usize = 0;
     while i < n {
-        let r = record_at(table, i);
-        if record_sound(r) {
-            sum += open_in(r).0 as u64;
+        let found = judge_record(record_at(table, i));
+        if found.ok {
+            sum += found.shares.0 as u64;
             i += 1;
         } else {
             return Found { ok: false, sum: 0 };
