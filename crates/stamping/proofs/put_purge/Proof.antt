@@ -17,7 +17,8 @@ put-entry-requires c κs =
 part-put-bytes-end : tie.Need-part-put-bytes-end
 part-put-bytes-end c =
     let typed = c .before in
-    let start = typed .before .before .before .before .before .before .before .before .before in
+    let firm = typed .before .before .before .before in
+    let start = firm .before .before .before .before .before in
     omega (arith, mass-long (start .args .message .now) (start .pre .0) (sym (typed .before .first-byte .ensures) ∙ typed .if1 .taken))
 
 put-bytes-requires : tie.Need-put-bytes-requires

@@ -69,8 +69,9 @@ loop-less c =
 
 loop-again : tie.Need-loop-again Inv-loop μ-loop
 loop-again c =
-    let start = c .before .before .before .before .before .before .before .before .before in
-    let l = c .before .before .before .before .before .loop in
+    let turn = c .before .before .before .before .before in
+    let start = turn .before .before .before .before in
+    let l = turn .loop in
     let k = c .before .before .before .lowest .ensures in
     let here = test (start .args .table .now) (start .args .wanted) (start .args .n) (start .args .at) in
     let fails : here (firstBelow 8 (bitOf (l .left))) ≡ false = subst (λ (m : ℕ). here m ≡ false) k (answered (c .before .before .wanted-at .ensures) (c .before .if1 .left)) in
