@@ -1,9 +1,9 @@
 -- Done is the one answer whose number is 0, and a bad field the one that tells a place. Assumes nothing.
 use Rattle.octets.proofs.Proving.{◌∙◌, ◌≡◌, ◌⊎◌, ap, arith, false, false≢true, inl, inr, refl, sym, true, ℕ}
-use Rattle.answers.specs.Answer.{Answer, NotSound, WrongRing, WrongStocks, Malformed, BadField, TooEarly, UnlistedFirm, Ignored, NotLive, WrongMoment, WrongShares, Full, Blocked, NotHeld, NoRoom, Done, answerNumber, answerPlace, isDone}
+use Rattle.answers.specs.Answer.{Answer, NotSound, WrongRing, WrongStocks, Malformed, BadField, TooEarly, UnlistedFirm, Ignored, NotLive, WrongMoment, WrongShares, Full, Blocked, NotHeld, NoRoom, Done, answer_number, answer_place, is_done}
 
-pub is-done : (a : Answer) → isDone a ≡ true → a ≡ Done
-unfolding isDone
+pub is-done : (a : Answer) → is_done a ≡ true → a ≡ Done
+unfolding is_done
 is-done NotSound h = absurd (false≢true h)
 is-done WrongRing h = absurd (false≢true h)
 is-done WrongStocks h = absurd (false≢true h)
@@ -21,12 +21,12 @@ is-done NotHeld h = absurd (false≢true h)
 is-done NoRoom h = absurd (false≢true h)
 is-done Done h = refl
 
-pub not_done : (a : Answer) → isDone a ≡ false → a ≡ Done → ⊥
-unfolding isDone
-not_done a h e = false≢true (sym h ∙ ap isDone e)
+pub not_done : (a : Answer) → is_done a ≡ false → a ≡ Done → ⊥
+unfolding is_done
+not_done a h e = false≢true (sym h ∙ ap is_done e)
 
 -- another answer than 3 has place 0; 3 has the place that it tells
-pub by_place : (a : Answer) → ((answerNumber a ≡ 3 → ⊥) × (answerPlace a ≡ 0)) ⊎ ((at : ℕ) × (a ≡ BadField at))
+pub by_place : (a : Answer) → ((answer_number a ≡ 3 → ⊥) × (answer_place a ≡ 0)) ⊎ ((at : ℕ) × (a ≡ BadField at))
 by_place NotSound = inl ((λ z. omega (arith, z)), refl)
 by_place WrongRing = inl ((λ z. omega (arith, z)), refl)
 by_place WrongStocks = inl ((λ z. omega (arith, z)), refl)

@@ -4,46 +4,46 @@ use Rattle.octets.specs.Choice.{pick}
 pub use Rattle.answers.specs.declared.Answer.{Answer}
 pub use Rattle.answers.specs.declared.Answer.TheVariants.{NotSound, WrongRing, WrongStocks, Malformed, BadField, TooEarly, UnlistedFirm, Ignored, NotLive, WrongMoment, WrongShares, Full, Blocked, NotHeld, NoRoom, Done}
 
-abbrev pub answerNumber : Answer → ℕ
-answerNumber NotSound = 10
-answerNumber WrongRing = 11
-answerNumber WrongStocks = 14  -- right after 11 (Ask 2)
-answerNumber Malformed = 2
-answerNumber (BadField at) = 3
-answerNumber TooEarly = 4
-answerNumber UnlistedFirm = 15  -- right after 4 (Ask 5)
-answerNumber Ignored = 1
-answerNumber NotLive = 5
-answerNumber WrongMoment = 7
-answerNumber WrongShares = 6
-answerNumber Full = 8
-answerNumber Blocked = 9
-answerNumber NotHeld = 12
-answerNumber NoRoom = 13
-answerNumber Done = 0
+abbrev pub answer_number : Answer → ℕ
+answer_number NotSound = 10
+answer_number WrongRing = 11
+answer_number WrongStocks = 14  -- right after 11 (Ask 2)
+answer_number Malformed = 2
+answer_number (BadField at) = 3
+answer_number TooEarly = 4
+answer_number UnlistedFirm = 15  -- right after 4 (Ask 5)
+answer_number Ignored = 1
+answer_number NotLive = 5
+answer_number WrongMoment = 7
+answer_number WrongShares = 6
+answer_number Full = 8
+answer_number Blocked = 9
+answer_number NotHeld = 12
+answer_number NoRoom = 13
+answer_number Done = 0
 
 -- Ask 1: an answer 3 tells the offset of the first bad byte; every other answer has place 0
-abbrev pub answerPlace : Answer → ℕ
-answerPlace NotSound = 0
-answerPlace WrongRing = 0
-answerPlace WrongStocks = 0
-answerPlace Malformed = 0
-answerPlace (BadField at) = at
-answerPlace TooEarly = 0
-answerPlace UnlistedFirm = 0
-answerPlace Ignored = 0
-answerPlace NotLive = 0
-answerPlace WrongMoment = 0
-answerPlace WrongShares = 0
-answerPlace Full = 0
-answerPlace Blocked = 0
-answerPlace NotHeld = 0
-answerPlace NoRoom = 0
-answerPlace Done = 0
+abbrev pub answer_place : Answer → ℕ
+answer_place NotSound = 0
+answer_place WrongRing = 0
+answer_place WrongStocks = 0
+answer_place Malformed = 0
+answer_place (BadField at) = at
+answer_place TooEarly = 0
+answer_place UnlistedFirm = 0
+answer_place Ignored = 0
+answer_place NotLive = 0
+answer_place WrongMoment = 0
+answer_place WrongShares = 0
+answer_place Full = 0
+answer_place Blocked = 0
+answer_place NotHeld = 0
+answer_place NoRoom = 0
+answer_place Done = 0
 
-unfoldable pub isDone : Answer → Bool
-isDone answer = eqb (answerNumber answer) 0
+unfoldable pub is_done : Answer → Bool
+is_done answer = eqb (answer_number answer) 0
 
 -- Only 0 changes anything: what is there after an answer, of what a done entry leaves and of what was there
-unfoldable pub ifDone : {A : Type 0} → Answer → A → A → A
-ifDone answer after before = pick (isDone answer) after before
+unfoldable pub if_done : {A : Type 0} → Answer → A → A → A
+if_done answer after before = pick (is_done answer) after before

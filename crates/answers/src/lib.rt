@@ -1,7 +1,7 @@
 // What every call of the host answers, and the one file in which an answer becomes the paper's number and place.
 ghost use Rattle.std.specs.Prelude.{◌≡◌};
 ghost use Rattle.octets.specs.Choice.{◌⇒◌⨾◌};
-ghost use Rattle.answers.specs.Answer.{answerNumber, answerPlace, isDone};
+ghost use Rattle.answers.specs.Answer.{answer_number, answer_place, is_done};
 
 // In the paper's order of checking; the last three are a release's, a writer's, and the only one that changes anything. A bad field comes with
 // the offset of its first bad byte.
@@ -27,7 +27,7 @@ pub enum Answer {
 
 // The paper's number of an answer.
 pub fn number(answer: Answer) -> u8
-    ensures { result ≡ answerNumber answer }
+    ensures { result ≡ answer_number answer }
 {
     match answer {
         Answer::NotSound => 10,
@@ -51,7 +51,7 @@ pub fn number(answer: Answer) -> u8
 
 // The place that an answer tells; 0 where it tells none.
 pub fn place(answer: Answer) -> usize
-    ensures { result ≡ answerPlace answer }
+    ensures { result ≡ answer_place answer }
 {
     match answer {
         Answer::NotSound => 0,
@@ -75,7 +75,7 @@ pub fn place(answer: Answer) -> usize
 
 // Only a call that answers Done has changed anything, and only an entry that comes to it goes on.
 pub fn is_done(answer: Answer) -> bool
-    ensures { result ≡ isDone answer }
+    ensures { result ≡ is_done answer }
 {
     number(answer) == 0
 }

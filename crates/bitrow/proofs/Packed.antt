@@ -2,7 +2,7 @@
 use Rattle.octets.proofs.Proving.{Bool, ◌<◌, ◌^◌, ◌∙◌, ◌≡◌, ◌≢◌, ap, ap₂, arith, eq-eqb, eqb, eqb-true, false, false≢true, lit<, pow-suc, refl, suc, sym, true, zero, ℕ, ℕ_discrete}
 use mathlib.Core.Bool.{beq}
 use Rattle.octets.specs.Choice.{all_below}
-use Rattle.octets.specs.Bits.{bit_of, withBit}
+use Rattle.octets.specs.Bits.{bit_of, with_bit}
 use Rattle.octets.proofs.Below.{all-at, all-each}
 use Rattle.octets.proofs.BitLaws.{with-same, with-other, with-lt}
 use Rattle.bitrow.specs.Row.{packed}
@@ -21,7 +21,7 @@ module _ (p : ℕ → Bool) where
   packed-bit zero j l = absurd (omega arith)
   packed-bit (suc w) j l =
       elim (ℕ_discrete j w) [
-        | yes e ↦ ap (bit_of (withBit (packed w p) w (p w))) e ∙ with-same (packed w p) w (p w) ∙ ap p (sym e)
+        | yes e ↦ ap (bit_of (with_bit (packed w p) w (p w))) e ∙ with-same (packed w p) w (p w) ∙ ap p (sym e)
         | no d ↦ with-other (packed w p) w j (p w) d ∙ packed-bit w j (omega arith)
       ]
 

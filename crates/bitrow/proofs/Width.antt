@@ -3,41 +3,41 @@
 use Rattle.octets.proofs.Proving.{Bool, ◌%◌, ◌+◌, ◌/◌, ◌<◌, ◌^◌, ◌∙◌, ◌≡◌, ◌≤◌, ap, ap₂, arith, eqb, false, lit<, mod-lt, pow-suc, refl, suc, sym, true, zero, ℕ}
 use lib.Count.{ones, ones_step, count_trailing_zeros, under}
 use lib.Pow.{pow_pos}
-use Rattle.octets.specs.Choice.{pick, countBelow, firstFrom, firstBelow}
-use Rattle.octets.specs.Bits.{bit_of, withBit}
+use Rattle.octets.specs.Choice.{pick, count_below, first_from, first_below}
+use Rattle.octets.specs.Bits.{bit_of, with_bit}
 use Rattle.octets.proofs.BitLaws.{bit-zero, with-off}
 use Rattle.bitrow.proofs.Halves.{count-first}
 
 -- the lowest bit is what halving leaves
 lowest : (b : ℕ) → pick (bit_of b 0) 1 0 ≡ b % 2
-unfolding withBit
+unfolding with_bit
 lowest b = omega (arith, with-off b 0)
 
 -- ---- the two counts
 
-pub ones-count : (w b : ℕ) → b < 2 ^ w → ones b ≡ countBelow w (bit_of b)
-unfolding ones countBelow bit_of
+pub ones-count : (w b : ℕ) → b < 2 ^ w → ones b ≡ count_below w (bit_of b)
+unfolding ones count_below bit_of
 ones-count zero b h = let e : b ≡ 0 = omega arith in ap ones e
 ones-count (suc w) b h =
     let half : b / 2 < 2 ^ w = omega (arith, pow-suc 2 w) in
     ones_step b ∙ ap₂ ◌+◌ (sym (lowest b)) (ones-count w (b / 2) half) ∙ sym (count-first (bit_of b) w)
 
 -- the first of the numbers behind the first
-first-later : (p : ℕ → Bool) (left i : ℕ) → firstFrom p left (suc i) ≡ suc (firstFrom (λ k. p (suc k)) left i)
-unfolding firstFrom
+first-later : (p : ℕ → Bool) (left i : ℕ) → first_from p left (suc i) ≡ suc (first_from (λ k. p (suc k)) left i)
+unfolding first_from
 first-later p zero i = refl
 first-later p (suc left) i =
     let e : suc i + 1 ≡ suc (i + 1) = omega arith in
-    ap (λ (k : ℕ). pick (p (suc i)) (suc i) (firstFrom p left k)) e ∙ ap (pick (p (suc i)) (suc i)) (first-later p left (i + 1))
-    ∙ inside (p (suc i)) (firstFrom (λ k. p (suc k)) left (i + 1))
+    ap (λ (k : ℕ). pick (p (suc i)) (suc i) (first_from p left k)) e ∙ ap (pick (p (suc i)) (suc i)) (first-later p left (i + 1))
+    ∙ inside (p (suc i)) (first_from (λ k. p (suc k)) left (i + 1))
   where
     inside : (b : Bool) (r : ℕ) → pick b (suc i) (suc r) ≡ suc (pick b i r)
     inside true r = refl
     inside false r = refl
 
 -- Of any number: bits past the width are not looked at.
-pub trailing-first : (w b : ℕ) → count_trailing_zeros w b ≡ firstBelow w (bit_of b)
-unfolding count_trailing_zeros firstBelow firstFrom bit_of
+pub trailing-first : (w b : ℕ) → count_trailing_zeros w b ≡ first_below w (bit_of b)
+unfolding count_trailing_zeros first_below first_from bit_of
 trailing-first zero b = refl
 trailing-first (suc w) b =
     here (b % 2) (mod-lt b (lit< tt)) (count_trailing_zeros w (b / 2))

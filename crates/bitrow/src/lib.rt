@@ -3,15 +3,15 @@
 //
 // A bit past the row is not set, and setting it changes nothing: so none of these asks where the row ends but `ones`, whose count must fit.
 ghost use Rattle.std.specs.Prelude.{◌≡◌, true, false, ◌*◌, ◌<◌, ◌^◌, length};
-ghost use Rattle.octets.specs.Choice.{firstBelow};
-ghost use Rattle.octets.specs.Bits.{bit_of, withBit};
-ghost use Rattle.bitrow.specs.Row.{bitAt, withBitAt, ones_in, clearFrom};
+ghost use Rattle.octets.specs.Choice.{first_below};
+ghost use Rattle.octets.specs.Bits.{bit_of, with_bit};
+ghost use Rattle.bitrow.specs.Row.{bit_at, with_bit_at, ones_in, clear_from};
 
 use octets::are_zero;
 use octets::bits::{bit_of, none_from, with_bit};
 
 pub fn bit_at(bits: &[u8], i: usize) -> bool
-    ensures { result ≡ bitAt bits.now i }
+    ensures { result ≡ bit_at bits.now i }
 {
     let at = i / 8;
     if at < bits.len() {
@@ -22,7 +22,7 @@ pub fn bit_at(bits: &[u8], i: usize) -> bool
 
 // Only the byte in which bit i lies is written.
 pub fn set_bit(bits: &mut [u8], i: usize, on: bool)
-    ensures { bits.new ≡ withBitAt bits.old i on }
+    ensures { bits.new ≡ with_bit_at bits.old i on }
 {
     let at = i / 8;
     if at < bits.len() {
@@ -46,7 +46,7 @@ pub fn ones(bits: &[u8]) -> usize
 
 // The place of the lowest bit that is set, or 8.
 pub fn lowest(b: u8) -> usize
-    ensures { result ≡ firstBelow 8 (bit_of b) }
+    ensures { result ≡ first_below 8 (bit_of b) }
 {
     u8::trailing_zeros(b) as usize
 }
@@ -54,14 +54,14 @@ pub fn lowest(b: u8) -> usize
 // A byte without one of its bits that are set: whoever has just found the bit need not ask for it again.
 pub fn cleared(b: u8, k: usize) -> u8
     requires { (k < 8) × (bit_of b k ≡ true) }
-    ensures { result ≡ withBit b k false }
+    ensures { result ≡ with_bit b k false }
 {
     b - (1u8 << k)
 }
 
 // Whether no bit is set from bit n on. Asked at every step: the byte in which n lies by one comparison, those behind it without a branch.
 pub fn clear_from(bits: &[u8], n: usize) -> bool
-    ensures { result ≡ clearFrom bits.now n }
+    ensures { result ≡ clear_from bits.now n }
 {
     let at = n / 8;
     let end = bits.len();

@@ -1,8 +1,8 @@
 -- Everything that specs/ defines, open at once, for proofs by computation. Assumes nothing.
-use Rattle.convert.specs.Old.{oldRecords, oldSizeGood, oldHeader, oldUsed, renewed, oldSound, oldPlaceOf}
-use Rattle.convert.specs.Convert.{convertAnswer, carried, withOrders, converted}
-use Rattle.convert.specs.Example.{head, records, oldTable, newTable, comesTo, examples}
+use Rattle.convert.specs.Old.{old_records, old_size_good, old_header, old_used, renewed, old_sound, old_place_of}
+use Rattle.convert.specs.Convert.{convert_answer, carried, with_orders, converted}
+use Rattle.convert.specs.Example.{head, records, old_table, new_table, comes_to, examples}
 
 unfoldable pub opened : Unit {0}
-unfolding oldRecords oldSizeGood oldHeader oldUsed renewed oldSound oldPlaceOf convertAnswer carried withOrders converted head records oldTable newTable comesTo examples
+unfolding old_records old_size_good old_header old_used renewed old_sound old_place_of convert_answer carried with_orders converted head records old_table new_table comes_to examples
 opened = tt

@@ -2,11 +2,11 @@
 use Rattle.octets.proofs.Proving.{List, ◌≡◌, arith, length, ℕ}
 use Rattle.octets.proofs.Laws.{length_part, number_bound}
 use Rattle.wire.specs.Legal.{Bytes}
-use Rattle.orders.specs.Limits.{recordSize}
+use Rattle.orders.specs.Limits.{record_size}
 use Rattle.orders.specs.Order.{order_of}
 use Rattle.orders.specs.Whole.{WholeOrder}
 
-module _ (s : List ℕ) (bytes : Bytes s) (long : length s ≡ recordSize) where
+module _ (s : List ℕ) (bytes : Bytes s) (long : length s ≡ record_size) where
   pub read_whole : WholeOrder (order_of s)
   unfolding order_of
   read_whole =

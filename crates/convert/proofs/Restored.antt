@@ -3,54 +3,54 @@
 use Rattle.octets.proofs.Proving.{List, ◌<◌, ◌∙◌, ◌≡◌, ◌≤◌, ap, arith, inr, length, refl, subst, suc, sym, true, zero, ℕ, ℕ_discrete}
 use Rattle.octets.proofs.Laws.{length_part, part_bytes}
 use Rattle.wire.specs.Legal.{Bytes}
-use Rattle.orders.specs.Limits.{recordSize, mostShares}
-use Rattle.orders.specs.Order.{order_of, orderBytes, openOf}
-use Rattle.orders.specs.Sound.{recordSound}
+use Rattle.orders.specs.Limits.{record_size, most_shares}
+use Rattle.orders.specs.Order.{order_of, order_bytes, open_of}
+use Rattle.orders.specs.Sound.{record_sound}
 use Rattle.orders.specs.Whole.{WholeOrder}
 use Rattle.orders.proofs.Spelled.{record-again}
 use Rattle.orders.proofs.Standing.{of-record, open-most}
-use Rattle.table.specs.Table.{recordsIn, HasRecord, tableSize, recordPlace, recordBytes, headBytes, order_at, open_at, storeOrder}
+use Rattle.table.specs.Table.{records_in, HasRecord, table_size, record_place, record_bytes, head_bytes, order_at, open_at, store_order}
 use Rattle.table.proofs.Stored.{head-there, order-stored, order-length, order-bytes, others-stay, order-head}
 use Rattle.table.proofs.Soundness.{head-fits}
 use Rattle.table.proofs.Agreeing.{Agree, store-agrees}
-use Rattle.convert.specs.Old.{oldRecords, oldUsed, renewed}
-use Rattle.convert.specs.Convert.{carried, withOrders}
+use Rattle.convert.specs.Old.{old_records, old_used, renewed}
+use Rattle.convert.specs.Convert.{carried, with_orders}
 use Rattle.convert.proofs.Former.{OldSound, old-fits}
 use Rattle.convert.proofs.Carried.{records-told, carried-long, carried-size, carried-head, carried-record, carried-agrees}
 use Rattle.convert.proofs.Reading.{read_whole}
 
 module _ (old : List ℕ) (bytes : Bytes old) (ok : OldSound old) where
   abbrev n : ℕ
-  n = oldRecords old
+  n = old_records old
 
   -- ---- an order that is read of the old table and spelled again
 
-  record-long : (i : ℕ) → i < n → length (recordBytes old i) ≡ recordSize
-  unfolding recordBytes recordPlace
-  record-long i h = length_part old _ recordSize (old-fits old i h)
+  record-long : (i : ℕ) → i < n → length (record_bytes old i) ≡ record_size
+  unfolding record_bytes record_place
+  record-long i h = length_part old _ record_size (old-fits old i h)
 
-  record-bytes : (i : ℕ) → Bytes (recordBytes old i)
-  unfolding recordBytes
-  record-bytes i = part_bytes old bytes (recordPlace i) recordSize
+  record-bytes : (i : ℕ) → Bytes (record_bytes old i)
+  unfolding record_bytes
+  record-bytes i = part_bytes old bytes (record_place i) record_size
 
   whole : (i : ℕ) → i < n → WholeOrder (order_at old i)
   unfolding order_at
-  whole i h = read_whole (recordBytes old i) (record-bytes i) (record-long i h)
+  whole i h = read_whole (record_bytes old i) (record-bytes i) (record-long i h)
 
-  again : (i : ℕ) → i < n → orderBytes (order_at old i) ≡ recordBytes old i
+  again : (i : ℕ) → i < n → order_bytes (order_at old i) ≡ record_bytes old i
   unfolding order_at
-  again i h = record-again (recordBytes old i) (record-bytes i) (record-long i h)
+  again i h = record-again (record_bytes old i) (record-bytes i) (record-long i h)
 
-  within : oldUsed old ≤ n
-  unfolding oldUsed
+  within : old_used old ≤ n
+  unfolding old_used
   within = omega arith
 
   -- ---- after the first k orders
 
   pub record Restored (k : ℕ) (t : List ℕ) : Type 0 where
-    pub long : length t ≡ tableSize n
-    pub head : headBytes t ≡ renewed old
-    pub records : (i : ℕ) → i < n → recordBytes t i ≡ recordBytes old i
+    pub long : length t ≡ table_size n
+    pub head : head_bytes t ≡ renewed old
+    pub records : (i : ℕ) → i < n → record_bytes t i ≡ record_bytes old i
     pub agree : Agree t k
 
   none : Restored 0 (carried old)
@@ -62,11 +62,11 @@ module _ (old : List ℕ) (bytes : Bytes old) (ok : OldSound old) where
         agree = carried-agrees old ok.size;
       }
 
-  module _ (k : ℕ) (next : k < oldUsed old) (t : List ℕ) (r : Restored k t) where
+  module _ (k : ℕ) (next : k < old_used old) (t : List ℕ) (r : Restored k t) where
     abbrev u : List ℕ
-    u = storeOrder t k (order_at old k)
+    u = store_order t k (order_at old k)
 
-    all : recordsIn t ≡ n
+    all : records_in t ≡ n
     all = records-told t n r.long
 
     there : HasRecord t k
@@ -75,19 +75,19 @@ module _ (old : List ℕ) (bytes : Bytes old) (ok : OldSound old) where
     w : WholeOrder (order_at old k)
     w = whole k (omega (arith, within))
 
-    kept : (i : ℕ) → i < n → recordBytes u i ≡ recordBytes old i
+    kept : (i : ℕ) → i < n → record_bytes u i ≡ record_bytes old i
     kept i h =
         elim (ℕ_discrete i k) [
-          | yes e ↦ ap (recordBytes u) e ∙ order-bytes t k (order_at old k) there w ∙ again k (omega (arith, within)) ∙ ap (recordBytes old) (sym e)
+          | yes e ↦ ap (record_bytes u) e ∙ order-bytes t k (order_at old k) there w ∙ again k (omega (arith, within)) ∙ ap (record_bytes old) (sym e)
           | no d ↦ others-stay t k (order_at old k) there w i (omega (arith, all)) d ∙ r.records i h
         ]
 
-    small : (j : ℕ) → j < suc k → open_at u j ≤ mostShares
+    small : (j : ℕ) → j < suc k → open_at u j ≤ most_shares
     unfolding order_at
     small j h =
-        let sound : recordSound (recordBytes old j) ≡ true = ok.records j (omega arith) in
-        let most = open-most (recordBytes old j) (of-record (recordBytes old j) sound) in
-        subst (λ (s : List ℕ). (openOf (order_of s)).0 ≤ mostShares) (sym (kept j (omega (arith, within)))) most
+        let sound : record_sound (record_bytes old j) ≡ true = ok.records j (omega arith) in
+        let most = open-most (record_bytes old j) (of-record (record_bytes old j) sound) in
+        subst (λ (s : List ℕ). (open_of (order_of s)).0 ≤ most_shares) (sym (kept j (omega (arith, within)))) most
 
     one_more : Restored (suc k) u
     one_more =
@@ -97,10 +97,10 @@ module _ (old : List ℕ) (bytes : Bytes old) (ok : OldSound old) where
           records = kept;
           agree =
               store-agrees t k (order_at old k) there w k (suc k) (omega (arith, there)) r.agree (inr (refl, omega arith)) (omega (arith, within, ok.size.most))
-              (λ j l. subst (λ (x : List ℕ). open_at x j ≤ mostShares) (order-stored t k (order_at old k) there) (small j l));
+              (λ j l. subst (λ (x : List ℕ). open_at x j ≤ most_shares) (order-stored t k (order_at old k) there) (small j l));
         }
 
-  pub restored : (k : ℕ) → k ≤ oldUsed old → Restored k (withOrders old k (carried old))
-  unfolding withOrders
+  pub restored : (k : ℕ) → k ≤ old_used old → Restored k (with_orders old k (carried old))
+  unfolding with_orders
   restored zero h = none
-  restored (suc k) h = one_more k (omega arith) (withOrders old k (carried old)) (restored k (omega arith))
+  restored (suc k) h = one_more k (omega arith) (with_orders old k (carried old)) (restored k (omega arith))

@@ -3,10 +3,10 @@
 pub mod old;
 
 ghost use Rattle.std.specs.Prelude.{◌≡◌, ◌+◌, ◌≤◌, length};
-ghost use Rattle.bitrow.specs.Row.{bytesFor};
-ghost use Rattle.header.specs.Limits.{headerSize};
-ghost use Rattle.convert.specs.Old.{oldRecords};
-ghost use Rattle.convert.specs.Convert.{convertAnswer, carried, withOrders, converted};
+ghost use Rattle.bitrow.specs.Row.{bytes_for};
+ghost use Rattle.header.specs.Limits.{header_size};
+ghost use Rattle.convert.specs.Old.{old_records};
+ghost use Rattle.convert.specs.Convert.{convert_answer, carried, with_orders, converted};
 
 use crate::old::{old_records, old_sound, old_used, renewed};
 use answers::{Answer, first_of, is_done};
@@ -19,7 +19,7 @@ use table::store::store_order;
 
 // 10 before 13: how long the new table is, only a sound old one says.
 fn convert_answer(old: &[u8], m: usize) -> Answer
-    ensures { result ≡ convertAnswer old.now m }
+    ensures { result ≡ convert_answer old.now m }
 {
     if old_sound(old) {
         return first_of(
@@ -33,7 +33,7 @@ fn convert_answer(old: &[u8], m: usize) -> Answer
 
 // Every byte of the second buffer is written, one run behind the other, so that nothing is left of what it held.
 fn carry(old: &[u8], table: &mut [u8])
-    requires { (headerSize ≤ length old.now) × (length table.old ≡ length old.now + bytesFor (oldRecords old.now)) }
+    requires { (header_size ≤ length old.now) × (length table.old ≡ length old.now + bytes_for (old_records old.now)) }
     ensures { table.new ≡ carried old.now }
 {
     let head = renewed(old);
@@ -47,8 +47,8 @@ fn carry(old: &[u8], table: &mut [u8])
 
 // Each order is stored where it stands already, since that makes its bit and adds to the sum.
 fn store_orders(old: &[u8], table: &mut [u8], n: usize)
-    requires { n ≤ oldRecords old.now }
-    ensures { table.new ≡ withOrders old.now n table.old }
+    requires { n ≤ old_records old.now }
+    ensures { table.new ≡ with_orders old.now n table.old }
 {
     let mut i: usize = 0;
     while i < n {
@@ -58,7 +58,7 @@ fn store_orders(old: &[u8], table: &mut [u8], n: usize)
 }
 
 pub fn convert(old: &[u8], table: &mut [u8]) -> Answer
-    ensures { (result ≡ convertAnswer old.now (length table.old)) × (table.new ≡ converted old.now table.old) }
+    ensures { (result ≡ convert_answer old.now (length table.old)) × (table.new ≡ converted old.now table.old) }
 {
     let answer = convert_answer(old, table.len());
     if is_done(answer) {

@@ -2,10 +2,10 @@
 // the length, byte 2, the four bytes of the sum and the bits are other.
 ghost use Rattle.std.specs.Prelude.{◌≡◌, true, ◌≤◌, length};
 ghost use Rattle.octets.specs.Choice.{all_below};
-ghost use Rattle.header.specs.Limits.{headerSize};
-ghost use Rattle.orders.specs.Sound.{recordSound};
-ghost use Rattle.table.specs.Table.{recordBytes};
-ghost use Rattle.convert.specs.Old.{oldRecords, oldSizeGood, oldUsed, renewed, oldSound};
+ghost use Rattle.header.specs.Limits.{header_size};
+ghost use Rattle.orders.specs.Sound.{record_sound};
+ghost use Rattle.table.specs.Table.{record_bytes};
+ghost use Rattle.convert.specs.Old.{old_records, old_size_good, old_used, renewed, old_sound};
 
 use header::sound::header_sound;
 use header::{HEADER_SIZE, SUM_PLACE, TABLE_FORM};
@@ -19,7 +19,7 @@ const OLD_FORM: u8 = 0;
 
 // How many records the old table has room for.
 pub(crate) fn old_records(old: &[u8]) -> usize
-    ensures { result ≡ oldRecords old.now }
+    ensures { result ≡ old_records old.now }
 {
     if old.len() < HEADER_SIZE {
         return 0;
@@ -29,7 +29,7 @@ pub(crate) fn old_records(old: &[u8]) -> usize
 
 // How many records are used, of those that there are.
 pub(crate) fn old_used(old: &[u8]) -> usize
-    ensures { result ≡ oldUsed old.now }
+    ensures { result ≡ old_used old.now }
 {
     if old.len() < HEADER_SIZE {
         return 0;
@@ -42,7 +42,7 @@ pub(crate) fn old_used(old: &[u8]) -> usize
 
 // 1 to 800 records, and nothing behind them.
 fn size_good(old: &[u8]) -> bool
-    ensures { result ≡ oldSizeGood old.now }
+    ensures { result ≡ old_size_good old.now }
 {
     let n = old_records(old);
     if (FEWEST_RECORDS <= n) & (n <= MOST_RECORDS) {
@@ -53,7 +53,7 @@ fn size_good(old: &[u8]) -> bool
 
 // The bytes of the header's value with the form of today.
 pub(crate) fn renewed(old: &[u8]) -> [u8; SUM_PLACE]
-    requires { headerSize ≤ length old.now }
+    requires { header_size ≤ length old.now }
     ensures { result ≡ renewed old.now }
 {
     let mut head = [0u8; SUM_PLACE];
@@ -63,15 +63,15 @@ pub(crate) fn renewed(old: &[u8]) -> [u8; SUM_PLACE]
 }
 
 fn records_sound(old: &[u8]) -> bool
-    requires { oldSizeGood old.now ≡ true }
-    ensures { result ≡ all_below (oldUsed old.now) (λ i. recordSound (recordBytes old.now i)) }
+    requires { old_size_good old.now ≡ true }
+    ensures { result ≡ all_below (old_used old.now) (λ i. record_sound (record_bytes old.now i)) }
 {
     let found = walk(old, old_used(old));
     found.ok
 }
 
 pub fn old_sound(old: &[u8]) -> bool
-    ensures { result ≡ oldSound old.now }
+    ensures { result ≡ old_sound old.now }
 {
     if size_good(old) {
         let head = renewed(old);

@@ -3,30 +3,30 @@
 use Rattle.octets.proofs.Proving.{List, ◌+◌, ◌<◌, ◌∙◌, ◌≡◌, ◌≢◌, ◌≤◌, ap, arith, subst, sym, ℕ, ℕ_discrete}
 use Rattle.octets.specs.Bytes.{zeros}
 use Rattle.wire.specs.Letters.{live}
-use Rattle.wire.specs.Limits.{tokenSize}
-use Rattle.orders.specs.Limits.{mostShares}
+use Rattle.wire.specs.Limits.{token_size}
+use Rattle.orders.specs.Limits.{most_shares}
 use Rattle.laws.proofs.Records.{Face}
 
 -- x has executed what was told, and what the order before it had: there is none, or it is among the n and no longer live
 pub data Carries (n : ℕ) (f : ℕ → Face) (told : ℕ) (x : Face) : Type 0 where
-  fromNothing : x.previous ≡ zeros tokenSize → x.executed ≡ told → Carries n f told x
-  fromBefore : (j : ℕ) → j < n → (f j).token ≡ x.previous → ((f j).state ≡ live → ⊥) → x.executed ≡ told + (f j).executed → Carries n f told x
+  from_nothing : x.previous ≡ zeros token_size → x.executed ≡ told → Carries n f told x
+  from_before : (j : ℕ) → j < n → (f j).token ≡ x.previous → ((f j).state ≡ live → ⊥) → x.executed ≡ told + (f j).executed → Carries n f told x
 
 pub record Balanced (n : ℕ) (f : ℕ → Face) (told : List ℕ → ℕ) : Type 0 where
   -- no two records have one token
   pub apart : (i j : ℕ) → i < n → j < n → (f i).token ≡ (f j).token → i ≡ j
   pub carries : (i : ℕ) → i < n → Carries n f (told (f i).token) (f i)
-  pub most : (i : ℕ) → i < n → (f i).executed ≤ mostShares
+  pub most : (i : ℕ) → i < n → (f i).executed ≤ most_shares
   -- and nothing was told of a token that no record has
   pub untold : (token : List ℕ) → ((i : ℕ) → i < n → (f i).token ≡ token → ⊥) → told token ≡ 0
 
 -- the order before stays as it is, and there may be more behind
 carries-on : (n m : ℕ) (f g : ℕ → Face) (told : ℕ) (x : Face) → ((j : ℕ) → j < n → ((f j).state ≡ live → ⊥) → (j < m) × (g j ≡ f j))
     → Carries n f told x → Carries m g told x
-carries-on n m f g told x same (fromNothing first all) = fromNothing first all
-carries-on n m f g told x same (fromBefore j l has ended all) =
+carries-on n m f g told x same (from_nothing first all) = from_nothing first all
+carries-on n m f g told x same (from_before j l has ended all) =
     let e = (same j l ended).1 in
-    fromBefore j (same j l ended).0 (ap (λ (y : Face). y.token) e ∙ has) (λ alive. ended (ap (λ (y : Face). y.state) (sym e) ∙ alive))
+    from_before j (same j l ended).0 (ap (λ (y : Face). y.token) e ∙ has) (λ alive. ended (ap (λ (y : Face). y.state) (sym e) ∙ alive))
     (all ∙ ap (λ (y : Face). told + y.executed) (sym e))
 
 module _ (n : ℕ) (f g : ℕ → Face) (told : List ℕ → ℕ) (ok : Balanced n f told) where
@@ -40,14 +40,14 @@ module _ (n : ℕ) (f g : ℕ → Face) (told : List ℕ → ℕ) (ok : Balanced
             subst (λ (y : Face). Carries n g (later y.token) y) (sym (same i l))
             (subst (λ (k : ℕ). Carries n g k (f i)) (sym (unmoved (f i).token))
             (carries-on n n f g _ (f i) (λ j b _. (b, same j b)) (ok.carries i l)));
-        most = λ i l. subst (λ (y : Face). y.executed ≤ mostShares) (sym (same i l)) (ok.most i l);
+        most = λ i l. subst (λ (y : Face). y.executed ≤ most_shares) (sym (same i l)) (ok.most i l);
         untold = λ t none. unmoved t ∙ ok.untold t (λ i l e. none i l (token i l ∙ e));
       }
 
   -- the live record p has executed k more, and as much is told under its token
   module _ (p k : ℕ) (l : p < n) (alive : (f p).state ≡ live) (others : (i : ℕ) → i < n → i ≢ p → g i ≡ f i)
       (token : (g p).token ≡ (f p).token) (previous : (g p).previous ≡ (f p).previous) (executed : (g p).executed ≡ (f p).executed + k)
-      (within : (g p).executed ≤ mostShares)
+      (within : (g p).executed ≤ most_shares)
       (later : List ℕ → ℕ) (Told-more : later (f p).token ≡ told (f p).token + k)
       (unmoved : (t : List ℕ) → ((f p).token ≡ t → ⊥) → later t ≡ told t)
     where
@@ -63,8 +63,8 @@ module _ (n : ℕ) (f g : ℕ → Face) (told : List ℕ → ℕ) (ok : Balanced
 
       more : (x : Face) → x.previous ≡ (f p).previous → x.executed ≡ (f p).executed + k → Carries n f (told (f p).token) (f p)
           → Carries n f (told (f p).token + k) x
-      more x same grown (fromNothing first all) = fromNothing (same ∙ first) (omega (arith, grown, all))
-      more x same grown (fromBefore j a has ended all) = fromBefore j a (has ∙ sym same) ended (omega (arith, grown, all))
+      more x same grown (from_nothing first all) = from_nothing (same ∙ first) (omega (arith, grown, all))
+      more x same grown (from_before j a has ended all) = from_before j a (has ∙ sym same) ended (omega (arith, grown, all))
 
       carried : (i : ℕ) → i < n → Carries n g (later (g i).token) (g i)
       carried i a = elim (ℕ_discrete i p) [
@@ -78,10 +78,10 @@ module _ (n : ℕ) (f g : ℕ → Face) (told : List ℕ → ℕ) (ok : Balanced
             (carries-on n n f g _ (f i) ended-stay (ok.carries i a)))
       ]
 
-      few : (i : ℕ) → i < n → (g i).executed ≤ mostShares
+      few : (i : ℕ) → i < n → (g i).executed ≤ most_shares
       few i a = elim (ℕ_discrete i p) [
         | yes e ↦ rw e within
-        | no e ↦ subst (λ (y : Face). y.executed ≤ mostShares) (sym (others i a e)) (ok.most i a)
+        | no e ↦ subst (λ (y : Face). y.executed ≤ most_shares) (sym (others i a e)) (ok.most i a)
       ]
 
       pub moved : Balanced n g later
@@ -96,7 +96,7 @@ module _ (n : ℕ) (f g : ℕ → Face) (told : List ℕ → ℕ) (ok : Balanced
 
   -- a record more, under a token that none has
   module _ (same : (i : ℕ) → i < n → g i ≡ f i) (new : (i : ℕ) → i < n → (f i).token ≡ (g n).token → ⊥) (carry : Carries n f 0 (g n))
-      (within : (g n).executed ≤ mostShares)
+      (within : (g n).executed ≤ most_shares)
     where
       with-new : (j : ℕ) → j < n → ((f j).state ≡ live → ⊥) → (j < n + 1) × (g j ≡ f j)
       with-new j l _ = (omega arith, same j l)
@@ -132,7 +132,7 @@ module _ (n : ℕ) (f g : ℕ → Face) (told : List ℕ → ℕ) (ok : Balanced
             ];
             most = λ i l. elim (ℕ_discrete i n) [
               | yes e ↦ rw e within
-              | no e ↦ subst (λ (y : Face). y.executed ≤ mostShares) (sym (same i (omega (arith, e)))) (ok.most i (omega (arith, e)))
+              | no e ↦ subst (λ (y : Face). y.executed ≤ most_shares) (sym (same i (omega (arith, e)))) (ok.most i (omega (arith, e)))
             ];
             untold = λ t none. ok.untold t (λ i l e. none i (omega arith) (old-token i l ∙ e));
           }

@@ -1,14 +1,14 @@
 -- What every done entry keeps, a whole play keeps: the one induction over the entries of a tape. Assumes nothing.
 use Rattle.octets.proofs.Proving.{Bool, List, [], ◌++◌, ◌∙◌, ◌∷◌, ◌≡◌, ap, append_assoc, append-nil, false, refl, subst, sym, true, ℕ}
-use Rattle.answers.specs.Answer.{isDone}
+use Rattle.answers.specs.Answer.{is_done}
 use Rattle.table.specs.Table.{sound}
-use Rattle.tape.specs.Entries.{stampOf}
+use Rattle.tape.specs.Entries.{stamp_of}
 use Rattle.notices.specs.Notices.{message}
-use Rattle.stocks.specs.Stocks.{listGood}
-use Rattle.host.specs.Step.{Books, booksAfter, comesTo}
+use Rattle.stocks.specs.Stocks.{list_good}
+use Rattle.host.specs.Step.{Books, books_after, comes_to}
 use Rattle.laws.proofs.Sounds.{keeps}
 use Rattle.laws.proofs.Halted.{quiet, stays-good}
-use Rattle.day.specs.Day.{telling, playOn, unlimited, booksWith}
+use Rattle.day.specs.Day.{telling, play_on, unlimited, books_with}
 use Rattle.day.specs.Demand.{NoHalts}
 
 -- a message, or none, between the ones before and the ones behind
@@ -18,45 +18,45 @@ in_between (b ∷ bs) past ms = append_assoc past ((b ∷ bs) ∷ []) ms
 
 -- something good of the books and the messages so far
 module _ (Good : Books → List (List ℕ) → Type 0)
-    (each : (b : Books) (s : List ℕ) (past : List (List ℕ)) → sound b.table ≡ true → isDone (comesTo b s).answer ≡ true → Good b past
-    → Good (booksWith b s (comesTo b s).plan) (past ++ telling (message (stampOf s) (comesTo b s).plan) []))
+    (each : (b : Books) (s : List ℕ) (past : List (List ℕ)) → sound b.table ≡ true → is_done (comes_to b s).answer ≡ true → Good b past
+    → Good (books_with b s (comes_to b s).plan) (past ++ telling (message (stamp_of s) (comes_to b s).plan) []))
   where
     abbrev Plays : List (List ℕ) → Type 0
     Plays ss = (b : Books) (past : List (List ℕ)) → sound b.table ≡ true → Good b past → Good (unlimited b ss).books (past ++ (unlimited b ss).messages)
 
     pub plays : (ss : List (List ℕ)) → Plays ss
-    unfolding unlimited booksAfter
+    unfolding unlimited books_after
     plays [] b past ok good = subst (Good b) (sym (append-nil past)) good
-    plays (s ∷ ss) b past ok good = by (isDone (comesTo b s).answer) refl (plays ss)
+    plays (s ∷ ss) b past ok good = by (is_done (comes_to b s).answer) refl (plays ss)
       where
-        by : (done : Bool) → isDone (comesTo b s).answer ≡ done → Plays ss
-            → Good (playOn b s (comesTo b s) done (λ b'. unlimited b' ss)).books (past ++ (playOn b s (comesTo b s) done (λ b'. unlimited b' ss)).messages)
+        by : (done : Bool) → is_done (comes_to b s).answer ≡ done → Plays ss
+            → Good (play_on b s (comes_to b s) done (λ b'. unlimited b' ss)).books (past ++ (play_on b s (comes_to b s) done (λ b'. unlimited b' ss)).messages)
         by true done rest =
-            let m = message (stampOf s) (comesTo b s).plan in
-            let b' = booksWith b s (comesTo b s).plan in
+            let m = message (stamp_of s) (comes_to b s).plan in
+            let b' = books_with b s (comes_to b s).plan in
             subst (Good (unlimited b' ss).books) (in_between m past (unlimited b' ss).messages)
             (rest b' (past ++ telling m []) (keeps b s ok done) (each b s past ok done good))
         by false e rest = rest b past ok good
 
 -- a sound table stays sound
 pub play-sound : (ss : List (List ℕ)) (b : Books) → sound b.table ≡ true → sound (unlimited b ss).books.table ≡ true
-unfolding booksAfter
+unfolding books_after
 play-sound ss b ok = plays (λ b' past. sound b'.table ≡ true) (λ b' s past good done _. keeps b' s good done) ss b [] ok ok
 
 -- a right list stays right
-pub play-right : (ss : List (List ℕ)) (b : Books) → sound b.table ≡ true → listGood b.stocks ≡ true → listGood (unlimited b ss).books.stocks ≡ true
-unfolding booksAfter
+pub play-right : (ss : List (List ℕ)) (b : Books) → sound b.table ≡ true → list_good b.stocks ≡ true → list_good (unlimited b ss).books.stocks ≡ true
+unfolding books_after
 play-right ss b ok right =
-    plays (λ b' past. listGood b'.stocks ≡ true) (λ b' s past good done r. stays-good b' s good done r) ss b [] ok right
+    plays (λ b' past. list_good b'.stocks ≡ true) (λ b' s past good done r. stays-good b' s good done r) ss b [] ok right
 
 -- and where no h is played it stays as it was
 pub play-quiet : (ss : List (List ℕ)) → NoHalts ss → (b : Books) → sound b.table ≡ true → (unlimited b ss).books.stocks ≡ b.stocks
-unfolding unlimited booksAfter
+unfolding unlimited books_after
 play-quiet [] none b ok = refl
-play-quiet (s ∷ ss) none b ok = by (isDone (comesTo b s).answer) refl (play-quiet ss none.1)
+play-quiet (s ∷ ss) none b ok = by (is_done (comes_to b s).answer) refl (play-quiet ss none.1)
   where
-    by : (done : Bool) → isDone (comesTo b s).answer ≡ done
+    by : (done : Bool) → is_done (comes_to b s).answer ≡ done
         → ((b' : Books) → sound b'.table ≡ true → (unlimited b' ss).books.stocks ≡ b'.stocks)
-        → (playOn b s (comesTo b s) done (λ b'. unlimited b' ss)).books.stocks ≡ b.stocks
-    by true done rest = rest (booksWith b s (comesTo b s).plan) (keeps b s ok done) ∙ quiet b s ok done none.0
+        → (play_on b s (comes_to b s) done (λ b'. unlimited b' ss)).books.stocks ≡ b.stocks
+    by true done rest = rest (books_with b s (comes_to b s).plan) (keeps b s ok done) ∙ quiet b s ok done none.0
     by false e rest = rest b ok

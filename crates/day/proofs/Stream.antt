@@ -4,16 +4,16 @@ use Rattle.octets.proofs.Proving.{Bool, List, [], ◌&&◌, ◌++◌, ◌+◌, �
 use Rattle.octets.specs.Choice.{all_below}
 use Rattle.octets.specs.Bytes.{joined}
 use Rattle.octets.proofs.Below.{all-at, both}
-use Rattle.wire.specs.Layout.{layoutFor}
-use Rattle.wire.specs.Messages.{messageLayout, lengthFor, messageLength}
+use Rattle.wire.specs.Layout.{layout_for}
+use Rattle.wire.specs.Messages.{message_layout, length_for, message_length}
 use Rattle.wire.proofs.Exactly.{done-exactly}
 use Rattle.table.specs.Table.{sound}
-use Rattle.tape.specs.Entries.{stampOf}
+use Rattle.tape.specs.Entries.{stamp_of}
 use Rattle.notices.specs.Notices.{message}
 use Rattle.laws.specs.Messages.{OneOfTwelve, AtMostOne, silent, told}
-use Rattle.host.specs.Step.{Books, World, comesTo}
+use Rattle.host.specs.Step.{Books, World, comes_to}
 use Rattle.day.specs.Day.{telling, unlimited, Action, run}
-use Rattle.day.specs.Demand.{bytes, WholeMessages, cutInto, messagesIn, AllOfTwelve}
+use Rattle.day.specs.Demand.{bytes, WholeMessages, cut_into, messages_in, AllOfTwelve}
 use Rattle.laws.specs.Ready.{Ready}
 use Rattle.laws.proofs.Sent.{sends}
 use Rattle.day.proofs.Plays.{plays}
@@ -30,55 +30,55 @@ one-behind (x ∷ past) m one all = (all.0, one-behind past m one all.1)
 pub all-legal : (ss : List (List ℕ)) (b : Books) → sound b.table ≡ true → AllOfTwelve (unlimited b ss).messages
 all-legal ss b ok =
     plays (λ b' past. AllOfTwelve past)
-    (λ b' s past good done all. one-behind past (message (stampOf s) (comesTo b' s).plan) (sends b' s good done) all) ss b [] ok tt
+    (λ b' s past good done all. one-behind past (message (stamp_of s) (comes_to b' s).plan) (sends b' s good done) all) ss b [] ok tt
 
 -- ---- cutting
 
 -- message k of the sixteen, where it is outbound: its type fixes its length, which is not 0
-lengths-fixed : all_below 16 (λ k. ltb k 4 || (eqb (messageLength false (messageLayout k).code) (messageLayout k).size && ltb 0 (messageLayout k).size)) ≡ true
-unfolding all_below lengthFor layoutFor
+lengths-fixed : all_below 16 (λ k. ltb k 4 || (eqb (message_length false (message_layout k).code) (message_layout k).size && ltb 0 (message_layout k).size)) ≡ true
+unfolding all_below length_for layout_for
 lengths-fixed = refl
 
 module _ (m : List ℕ) (one : OneOfTwelve m) where
-  fixed : (eqb (messageLength false (messageLayout one.number).code) (messageLayout one.number).size && ltb 0 (messageLayout one.number).size) ≡ true
+  fixed : (eqb (message_length false (message_layout one.number).code) (message_layout one.number).size && ltb 0 (message_layout one.number).size) ≡ true
   fixed =
-      subst (λ (b : Bool). (b || (eqb (messageLength false (messageLayout one.number).code) (messageLayout one.number).size && ltb 0 (messageLayout one.number).size)) ≡ true)
+      subst (λ (b : Bool). (b || (eqb (message_length false (message_layout one.number).code) (message_layout one.number).size && ltb 0 (message_layout one.number).size)) ≡ true)
       (le-ltb one.number 4 one.low) (all-at _ 16 one.number lengths-fixed one.high)
 
-  long : messageLength false (get_or m 0 0) ≡ length m
+  long : message_length false (get_or m 0 0) ≡ length m
   long =
-      let legal = (done-exactly (messageLayout one.number) m).0 one.legal in
-      ap (messageLength false) legal.typed ∙ eqb-true _ _ (both _ _ fixed).0 ∙ sym legal.long
+      let legal = (done-exactly (message_layout one.number) m).0 one.legal in
+      ap (message_length false) legal.typed ∙ eqb-true _ _ (both _ _ fixed).0 ∙ sym legal.long
 
   some : 0 < length m
   some =
-      let legal = (done-exactly (messageLayout one.number) m).0 one.legal in
-      let size = (messageLayout one.number).size in
-      omega (arith, legal.long, ltb-true 0 size (both (eqb (messageLength false (messageLayout one.number).code) size) (ltb 0 size) fixed).1)
+      let legal = (done-exactly (message_layout one.number) m).0 one.legal in
+      let size = (message_layout one.number).size in
+      omega (arith, legal.long, ltb-true 0 size (both (eqb (message_length false (message_layout one.number).code) size) (ltb 0 size) fixed).1)
 
-pub cut_again : (ms : List (List ℕ)) → AllOfTwelve ms → (n : ℕ) → length (joined ms) ≤ n → cutInto n (joined ms) ≡ ms
-unfolding joined cutInto
+pub cut_again : (ms : List (List ℕ)) → AllOfTwelve ms → (n : ℕ) → length (joined ms) ≤ n → cut_into n (joined ms) ≡ ms
+unfolding joined cut_into
 cut_again [] all zero enough = refl
 cut_again [] all (suc n) enough = refl
 cut_again ([] ∷ ms) all n enough = absurd (omega (arith, some [] all.0))
 cut_again ((b ∷ bs) ∷ ms) all zero enough = absurd (omega (arith, length-append (b ∷ bs) (joined ms)))
 cut_again ((b ∷ bs) ∷ ms) all (suc n) enough =
     let m : List ℕ = b ∷ bs in
-    let size : messageLength false b ≡ length m = long m all.0 in
+    let size : message_length false b ≡ length m = long m all.0 in
     ap₂ ◌∷◌
-    (take_at m (joined ms) (messageLength false b) (sym size))
-    (ap (cutInto n) (drop_at m (joined ms) (messageLength false b) (sym size))
+    (take_at m (joined ms) (message_length false b) (sym size))
+    (ap (cut_into n) (drop_at m (joined ms) (message_length false b) (sym size))
     ∙ cut_again ms all.1 n (omega (arith, length-append m (joined ms))))
 
 -- ---- of every schedule that gets through the list
 
 pub whole-messages : (w : World) (ss : List (List ℕ)) (todo : List Action) → Ready w → w.marks.held ≡ 0 → (run w ss todo).left ≡ []
     → WholeMessages ((run w ss todo).released ++ bytes (run w ss todo).world) (unlimited w.books ss).messages
-unfolding messagesIn
+unfolding messages_in
 whole-messages w ss todo ok none through =
     let legal = all-legal ss w.books ok.table in
     record {
-      cut = ap (λ (s : List ℕ). cutInto (length s) s) (streams w ss todo ok none through).messages
+      cut = ap (λ (s : List ℕ). cut_into (length s) s) (streams w ss todo ok none through).messages
           ∙ cut_again (unlimited w.books ss).messages legal _ (omega arith);
       legal = legal;
     }

@@ -3,23 +3,23 @@ use Rattle.octets.proofs.Proving.{Bool, List, [], ◌++◌, ◌+◌, ◌<◌, �
 use Rattle.octets.specs.Choice.{pick}
 use Rattle.octets.specs.Bytes.{part, same, digits, number_of}
 use Rattle.octets.proofs.Laws.{length_digits, number_digits}
-use Rattle.wire.specs.Limits.{tokenSize}
+use Rattle.wire.specs.Limits.{token_size}
 use Rattle.wire.specs.Layout.{spell}
 use Rattle.wire.proofs.Layouts.{part-there}
 use Rattle.wire.specs.Messages.{executed}
-use Rattle.outbound.specs.Outbound.{systemEventBytes, acceptedBytes, replacedBytes, canceledBytes, aiqCancelledBytes, executedBytes, rejectedBytes, cancelPendingBytes, cancelRejectBytes, priorityUpdateBytes, modifiedBytes, executedOf}
+use Rattle.outbound.specs.Outbound.{system_event_bytes, accepted_bytes, replaced_bytes, canceled_bytes, aiq_cancelled_bytes, executed_bytes, rejected_bytes, cancel_pending_bytes, cancel_reject_bytes, priority_update_bytes, modified_bytes, executed_of}
 use Rattle.orders.specs.declared.order.Order.{Order}
 use Rattle.rules.specs.declared.plan.Notice.{Notice}
 use Rattle.rules.specs.declared.plan.Notice.TheVariants.{Accepted, AiqCancelled, CancelPending, CancelReject, Canceled, Executed, Modified, PriorityUpdate, Rejected, Replaced, Silent, SystemEvent}
-use Rattle.laws.proofs.Shapes.{toldExecuted}
-use Rattle.notices.specs.Notices.{noticeBytes, executedNotice}
-use Rattle.day.specs.Chain.{executedBy, executedIn}
+use Rattle.laws.proofs.Shapes.{told_executed}
+use Rattle.notices.specs.Notices.{notice_bytes, executed_notice}
+use Rattle.day.specs.Chain.{executed_by, executed_in}
 use Rattle.day.specs.Day.{telling}
 
 -- ---- one message
 
 -- the token and the shares of an Executed, read from its bytes
-module _ (stamp shares : ℕ) (token rest : List ℕ) (long : length token ≡ tokenSize) where
+module _ (stamp shares : ℕ) (token rest : List ℕ) (long : length token ≡ token_size) where
   abbrev front : List ℕ
   front = executed.code ∷ digits 8 stamp
 
@@ -40,9 +40,9 @@ nothing : (b : Bool) → ◌≡◌ {A = ℕ} 0 (pick b 0 0)
 nothing true = refl
 nothing false = refl
 
-pub tells : (stamp : ℕ) (o new : Order) (notice : Notice) (token : List ℕ) → length o.token ≡ tokenSize → toldExecuted notice < 256 ^ 4
-    → executedBy token (noticeBytes stamp o new notice) ≡ pick (same o.token token) (toldExecuted notice) 0
-unfolding executedBy noticeBytes spell executedOf systemEventBytes acceptedBytes replacedBytes canceledBytes aiqCancelledBytes executedBytes executedNotice rejectedBytes cancelPendingBytes cancelRejectBytes priorityUpdateBytes modifiedBytes
+pub tells : (stamp : ℕ) (o new : Order) (notice : Notice) (token : List ℕ) → length o.token ≡ token_size → told_executed notice < 256 ^ 4
+    → executed_by token (notice_bytes stamp o new notice) ≡ pick (same o.token token) (told_executed notice) 0
+unfolding executed_by notice_bytes spell executed_of system_event_bytes accepted_bytes replaced_bytes canceled_bytes aiq_cancelled_bytes executed_bytes executed_notice rejected_bytes cancel_pending_bytes cancel_reject_bytes priority_update_bytes modified_bytes
 tells stamp o new (Executed e) token long fits =
     ap₂ (λ (t : List ℕ) (n : ℕ). pick (same t token) n 0) (token-told stamp e.shares.0 o.token _ long)
     (shares-told stamp e.shares.0 o.token _ long fits)
@@ -60,13 +60,13 @@ tells stamp o new Modified token long fits = nothing (same o.token token)
 
 -- ---- messages one behind the other
 
-pub executed-append : (token : List ℕ) (a b : List (List ℕ)) → executedIn token (a ++ b) ≡ executedIn token a + executedIn token b
-unfolding executedIn
+pub executed-append : (token : List ℕ) (a b : List (List ℕ)) → executed_in token (a ++ b) ≡ executed_in token a + executed_in token b
+unfolding executed_in
 executed-append token [] b = omega arith
 executed-append token (m ∷ a) b = omega (arith, executed-append token a b)
 
 -- an entry that sends nothing tells nothing
-pub executed-telling : (token m : List ℕ) → executedIn token (telling m []) ≡ executedBy token m
-unfolding executedIn executedBy
+pub executed-telling : (token m : List ℕ) → executed_in token (telling m []) ≡ executed_by token m
+unfolding executed_in executed_by
 executed-telling token [] = refl
 executed-telling token (b ∷ bs) = omega arith

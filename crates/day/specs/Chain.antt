@@ -3,27 +3,27 @@ use Rattle.std.specs.Prelude.{ℕ, zero, suc, ◌+◌, ◌&&◌, List, [], ◌�
 use Rattle.octets.specs.Choice.{pick}
 use Rattle.octets.specs.Bytes.{same}
 use Rattle.wire.specs.Messages.{executed}
-use Rattle.outbound.specs.Outbound.{executedOf}
-use Rattle.orders.specs.Order.{isUsed}
-use Rattle.table.specs.Table.{orderNamed}
+use Rattle.outbound.specs.Outbound.{executed_of}
+use Rattle.orders.specs.Order.{is_used}
+use Rattle.table.specs.Table.{order_named}
 
 -- what a message tells as executed under a token
-unfoldable pub executedBy : List ℕ → List ℕ → ℕ
-executedBy token m = pick (eqb (get_or m 0 0) executed.code && same (executedOf m).token token) (executedOf m).shares.0 0
+unfoldable pub executed_by : List ℕ → List ℕ → ℕ
+executed_by token m = pick (eqb (get_or m 0 0) executed.code && same (executed_of m).token token) (executed_of m).shares.0 0
 
 -- what all of them tell
-unfoldable pub executedIn : List ℕ → List (List ℕ) → ℕ
-executedIn token [] = 0
-executedIn token (m ∷ ms) = executedBy token m + executedIn token ms
+unfoldable pub executed_in : List ℕ → List (List ℕ) → ℕ
+executed_in token [] = 0
+executed_in token (m ∷ ms) = executed_by token m + executed_in token ms
 
 -- the tokens of a chain from its end back: a token, the one that it replaced, and so on, n at most
 unfoldable pub chain : List ℕ → ℕ → List ℕ → List (List ℕ)
 chain t zero token = []
 chain t (suc n) token =
-    let o = orderNamed t token in
-    pick (isUsed o) (token ∷ chain t n o.details.previous) []
+    let o = order_named t token in
+    pick (is_used o) (token ∷ chain t n o.details.previous) []
 
 -- what the messages tell as executed along a chain
-unfoldable pub executedAlong : List (List ℕ) → List (List ℕ) → ℕ
-executedAlong [] ms = 0
-executedAlong (token ∷ tokens) ms = executedIn token ms + executedAlong tokens ms
+unfoldable pub executed_along : List (List ℕ) → List (List ℕ) → ℕ
+executed_along [] ms = 0
+executed_along (token ∷ tokens) ms = executed_in token ms + executed_along tokens ms

@@ -2,12 +2,12 @@
 -- (demand 3).
 use Rattle.std.specs.Prelude.{ℕ, Bool, true, false, List, [], ◌∷◌, ◌++◌, length, take}
 use Rattle.octets.specs.Choice.{pick}
-use Rattle.answers.specs.Answer.{isDone}
-use Rattle.outbox.specs.Outbox.{held, releaseAnswer, releaseMarks}
+use Rattle.answers.specs.Answer.{is_done}
+use Rattle.outbox.specs.Outbox.{held, release_answer, release_marks}
 use Rattle.notices.specs.Notices.{message}
-use Rattle.tape.specs.Entries.{stampOf}
-use Rattle.host.specs.Step.{Books, World, Outcome, namedPlace, booksAfter, step, comesTo}
-use Rattle.laws.specs.Blocked.{isBlocked}
+use Rattle.tape.specs.Entries.{stamp_of}
+use Rattle.host.specs.Step.{Books, World, Outcome, named_place, books_after, step, comes_to}
+use Rattle.laws.specs.Blocked.{is_blocked}
 use Rattle.answers.specs.declared.Answer.{Answer}
 use Rattle.rules.specs.declared.plan.Decision.{Decision}
 use Rattle.rules.specs.declared.plan.Plan.{Plan}
@@ -26,27 +26,27 @@ telling [] ms = ms
 telling (b ∷ bs) ms = (b ∷ bs) ∷ ms
 
 -- the books after a done entry
-abbrev pub booksWith : Books → List ℕ → Plan → Books
-booksWith b s p = booksAfter b (namedPlace b.table s) (stampOf s) p
+abbrev pub books_with : Books → List ℕ → Plan → Books
+books_with b s p = books_after b (named_place b.table s) (stamp_of s) p
 
 -- one entry, and then the rest
-abbrev pub playOn : Books → List ℕ → Decision → Bool → (Books → Played) → Played
-playOn b s d true rest =
-    let r = rest (booksWith b s d.plan) in
-    record { answers = d.answer ∷ r.answers; books = r.books; messages = telling (message (stampOf s) d.plan) r.messages }
-playOn b s d false rest =
+abbrev pub play_on : Books → List ℕ → Decision → Bool → (Books → Played) → Played
+play_on b s d true rest =
+    let r = rest (books_with b s d.plan) in
+    record { answers = d.answer ∷ r.answers; books = r.books; messages = telling (message (stamp_of s) d.plan) r.messages }
+play_on b s d false rest =
     let r = rest b in
     record { answers = d.answer ∷ r.answers; books = r.books; messages = r.messages }
 
 unfoldable pub unlimited : Books → List (List ℕ) → Played
 unlimited b [] = record { answers = []; books = b; messages = [] }
-unlimited b (s ∷ ss) = playOn b s (comesTo b s) (isDone (comesTo b s).answer) (λ b'. unlimited b' ss)
+unlimited b (s ∷ ss) = play_on b s (comes_to b s) (is_done (comes_to b s).answer) (λ b'. unlimited b' ss)
 
 -- ---- with an outbox between
 
 -- what the driver does next: it offers the next entry, looks at the run that is read, or releases k bytes; it may ask for more than is held
 pub data Action : Type 0 where
-  offerNext : Action
+  offer_next : Action
   look : Action
   release : ℕ → Action
 
@@ -57,12 +57,12 @@ pub record Ran : Type 0 where
   pub released : List ℕ
   pub world : World
 
-abbrev pub withMarks : World → Marks → World
-withMarks w m = record { books = w.books; ring = w.ring; marks = m }
+abbrev pub with_marks : World → Marks → World
+with_marks w m = record { books = w.books; ring = w.ring; marks = m }
 
 -- the bytes that a release of k gives up: none where it is refused
-unfoldable pub givenUp : World → ℕ → List ℕ
-givenUp w k = pick (isDone (releaseAnswer (length w.ring) w.marks k)) (take k (held w.ring w.marks)) []
+unfoldable pub given_up : World → ℕ → List ℕ
+given_up w k = pick (is_done (release_answer (length w.ring) w.marks k)) (take k (held w.ring w.marks)) []
 
 -- a blocked entry stays the next one
 abbrev pub offered : List ℕ → List (List ℕ) → Outcome → Bool → (World → List (List ℕ) → Ran) → Ran
@@ -75,20 +75,20 @@ unfoldable pub run : World → List (List ℕ) → List Action → Ran
 run w ss [] = record { left = ss; answers = []; released = []; world = w }
 run w ss (look ∷ todo) = run w ss todo
 run w ss (release k ∷ todo) =
-    let x = run (withMarks w (releaseMarks (length w.ring) w.marks k)) ss todo in
-    record { left = x.left; answers = x.answers; released = givenUp w k ++ x.released; world = x.world }
-run w [] (offerNext ∷ todo) = run w [] todo
-run w (s ∷ ss) (offerNext ∷ todo) =
-    offered s ss (step w s) (isBlocked (step w s).answer) (λ w' ss'. run w' ss' todo)
+    let x = run (with_marks w (release_marks (length w.ring) w.marks k)) ss todo in
+    record { left = x.left; answers = x.answers; released = given_up w k ++ x.released; world = x.world }
+run w [] (offer_next ∷ todo) = run w [] todo
+run w (s ∷ ss) (offer_next ∷ todo) =
+    offered s ss (step w s) (is_blocked (step w s).answer) (λ w' ss'. run w' ss' todo)
 
 -- ---- a driver that empties the outbox whenever an entry is blocked
 
 unfoldable pub emptied : World → World
-emptied w = withMarks w (releaseMarks (length w.ring) w.marks w.marks.held)
+emptied w = with_marks w (release_marks (length w.ring) w.marks w.marks.held)
 
 unfoldable pub patient : World → List (List ℕ) → List Action
 patient w [] = []
 patient w (s ∷ ss) =
-    pick (isBlocked (step w s).answer)
-    (offerNext ∷ release w.marks.held ∷ offerNext ∷ patient (step (emptied w) s).world ss)
-    (offerNext ∷ patient (step w s).world ss)
+    pick (is_blocked (step w s).answer)
+    (offer_next ∷ release w.marks.held ∷ offer_next ∷ patient (step (emptied w) s).world ss)
+    (offer_next ∷ patient (step w s).world ss)

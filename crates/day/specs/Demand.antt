@@ -1,7 +1,7 @@
 -- What demand 3 asks of a schedule that got through its entries, and of the stream that came out: the conclusions of the theorems of the day.
 use Rattle.std.specs.Prelude.{ℕ, zero, suc, ◌≡◌, false, List, [], ◌∷◌, ◌++◌, ◌≢◌, length, take, drop}
 use Rattle.octets.specs.Bytes.{joined}
-use Rattle.wire.specs.Messages.{messageLength}
+use Rattle.wire.specs.Messages.{message_length}
 use Rattle.outbox.specs.Outbox.{held}
 use Rattle.tape.specs.Kinds.{kind_of}
 use Rattle.tape.specs.declared.kinds.Kind.TheVariants.{SetsStock}
@@ -34,18 +34,18 @@ pub record Begins (s : List ℕ) (whole : List ℕ) : Type 0 where
 -- ---- the stream cut into messages, by the lengths that their types fix
 
 -- the message in front, and then the rest
-abbrev pub cutOn : List ℕ → (List ℕ → List (List ℕ)) → List (List ℕ)
-cutOn [] rest = []
-cutOn (b ∷ bs) rest = take (messageLength false b) (b ∷ bs) ∷ rest (drop (messageLength false b) (b ∷ bs))
+abbrev pub cut_on : List ℕ → (List ℕ → List (List ℕ)) → List (List ℕ)
+cut_on [] rest = []
+cut_on (b ∷ bs) rest = take (message_length false b) (b ∷ bs) ∷ rest (drop (message_length false b) (b ∷ bs))
 
 -- until nothing is left, n messages at most
-unfoldable pub cutInto : ℕ → List ℕ → List (List ℕ)
-cutInto zero s = []
-cutInto (suc n) s = cutOn s (cutInto n)
+unfoldable pub cut_into : ℕ → List ℕ → List (List ℕ)
+cut_into zero s = []
+cut_into (suc n) s = cut_on s (cut_into n)
 
 -- no message is empty, so there are no more messages than bytes
-unfoldable pub messagesIn : List ℕ → List (List ℕ)
-messagesIn s = cutInto (length s) s
+unfoldable pub messages_in : List ℕ → List (List ℕ)
+messages_in s = cut_into (length s) s
 
 -- each is one of the twelve, legal for its reader
 abbrev pub AllOfTwelve : List (List ℕ) → Type 0
@@ -54,7 +54,7 @@ AllOfTwelve (m ∷ ms) = OneOfTwelve m × AllOfTwelve ms
 
 -- the bytes cut so are these messages, each legal for its reader
 pub record WholeMessages (s : List ℕ) (ms : List (List ℕ)) : Type 0 where
-  pub cut : messagesIn s ≡ ms
+  pub cut : messages_in s ≡ ms
   pub legal : AllOfTwelve ms
 
 -- ---- the list of stocks

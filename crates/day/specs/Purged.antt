@@ -2,37 +2,37 @@
 use Rattle.std.specs.Prelude.{ℕ, zero, suc, ◌≤◌, ◌<◌, ◌≡◌, true, false, List, [], ◌∷◌}
 use Rattle.answers.specs.declared.Answer.{Answer}
 use Rattle.answers.specs.declared.Answer.TheVariants.{Done, Ignored}
-use Rattle.header.specs.Firms.{isListed}
-use Rattle.orders.specs.Wanted.{isWanted}
+use Rattle.header.specs.Firms.{is_listed}
+use Rattle.orders.specs.Wanted.{is_wanted}
 use Rattle.table.specs.Table.{header, order_at, sound}
-use Rattle.tape.specs.Entries.{entryAnswer, stampOf, purges, purgeOf}
-use Rattle.risk.specs.Purge.{wantedBy}
+use Rattle.tape.specs.Entries.{entry_answer, stamp_of, purges, purge_of}
+use Rattle.risk.specs.Purge.{wanted_by}
 use Rattle.host.specs.Step.{Books}
-use Rattle.laws.specs.Purges.{ordersFor}
+use Rattle.laws.specs.Purges.{orders_for}
 
 -- the same entry n times, and once more
-unfoldable pub andOnceMore : ℕ → List ℕ → List (List ℕ)
-andOnceMore zero s = s ∷ []
-andOnceMore (suc n) s = s ∷ andOnceMore n s
+unfoldable pub and_once_more : ℕ → List ℕ → List (List ℕ)
+and_once_more zero s = s ∷ []
+and_once_more (suc n) s = s ∷ and_once_more n s
 
 -- n times done, and then ignored
-unfoldable pub doneThenIgnored : ℕ → List Answer
-doneThenIgnored zero = Ignored ∷ []
-doneThenIgnored (suc n) = Done ∷ doneThenIgnored n
+unfoldable pub done_then_ignored : ℕ → List Answer
+done_then_ignored zero = Ignored ∷ []
+done_then_ignored (suc n) = Done ∷ done_then_ignored n
 
 -- a w with which nothing is wrong: legal, not too early, and of a listed firm
 pub record GoodPurge (b : Books) (s : List ℕ) : Type 0 where
   pub table : sound b.table ≡ true
   pub is-w : purges s ≡ true
-  pub legal : entryAnswer s ≡ Done
-  pub in-time : (header b.table).last ≤ stampOf s
-  pub listed : isListed (header b.table) (purgeOf s).firm ≡ true
+  pub legal : entry_answer s ≡ Done
+  pub in-time : (header b.table).last ≤ stamp_of s
+  pub listed : is_listed (header b.table) (purge_of s).firm ≡ true
 
 -- it is offered as many times as there are such orders, and once more
-abbrev pub itsOffers : Books → List ℕ → List (List ℕ)
-itsOffers b s = andOnceMore (ordersFor (purgeOf s) b.table) s
+abbrev pub its_offers : Books → List ℕ → List (List ℕ)
+its_offers b s = and_once_more (orders_for (purge_of s) b.table) s
 
 -- what they come to: each is done but the last, and no live order of that firm and symbol is left that isn't late
 pub record PurgedOut (b : Books) (s : List ℕ) (answers : List Answer) (after : Books) : Type 0 where
-  pub ends : answers ≡ doneThenIgnored (ordersFor (purgeOf s) b.table)
-  pub none_left : (i : ℕ) → i < (header after.table).used → isWanted (wantedBy (purgeOf s)) (order_at after.table i) ≡ false
+  pub ends : answers ≡ done_then_ignored (orders_for (purge_of s) b.table)
+  pub none_left : (i : ℕ) → i < (header after.table).used → is_wanted (wanted_by (purge_of s)) (order_at after.table i) ≡ false

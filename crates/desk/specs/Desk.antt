@@ -4,5 +4,5 @@ use Rattle.octets.specs.Choice.{text}
 use Rattle.wire.specs.Shares.{total}
 use Rattle.header.specs.declared.settings.Settings.{Settings}
 
-unfoldable pub deskSettings : Settings
-deskSettings = record { threshold = total 1_000_000; firms = replicate 8 (record { code = text "ABCD" }); count = 1 }
+unfoldable pub desk_settings : Settings
+desk_settings = record { threshold = total 1_000_000; firms = replicate 8 (record { code = text "ABCD" }); count = 1 }

@@ -1,7 +1,7 @@
 // The practice desk's host: 800 records, threshold 1,000,000, firm ABCD, a ring of 4,096 bytes, and one stock, ABC, which trades.
 ghost use Rattle.std.specs.Prelude.{◌≡◌};
-ghost use Rattle.table.specs.Fresh.{freshAnswer, freshTable};
-ghost use Rattle.desk.specs.Desk.{deskSettings};
+ghost use Rattle.table.specs.Fresh.{fresh_answer, fresh_table};
+ghost use Rattle.desk.specs.Desk.{desk_settings};
 
 use answers::Answer;
 use header::settings::{Firm, Settings};
@@ -18,7 +18,7 @@ pub const STOCKS: [u8; 9] = *b"ABC     T";
 
 // One firm is listed. It stands in all eight places, since those past the count are not looked at.
 pub fn settings() -> Settings
-    ensures { result ≡ deskSettings }
+    ensures { result ≡ desk_settings }
 {
     let threshold = Total(1_000_000);
     let firms = [Firm { code: *b"ABCD" }; 8];
@@ -31,7 +31,7 @@ pub fn settings() -> Settings
 
 // A fresh table for the desk.
 pub fn open(table: &mut [u8]) -> Answer
-    ensures { (result ≡ freshAnswer table.old deskSettings) × (table.new ≡ freshTable table.old deskSettings) }
+    ensures { (result ≡ fresh_answer table.old desk_settings) × (table.new ≡ fresh_table table.old desk_settings) }
 {
     fresh(table, settings())
 }

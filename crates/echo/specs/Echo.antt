@@ -3,37 +3,37 @@
 use Rattle.std.specs.Prelude.{ℕ, Bool, List, get_or}
 use Rattle.std.proofs.Math.Option.{Option, none, some}
 use Rattle.octets.specs.Choice.{pick}
-use Rattle.answers.specs.Answer.{ifDone}
+use Rattle.answers.specs.Answer.{if_done}
 use Rattle.answers.specs.declared.Answer.{Answer}
 use Rattle.answers.specs.declared.Answer.TheVariants.{Malformed}
-use Rattle.wire.specs.Layout.{Layout, layoutFor}
-use Rattle.wire.specs.Messages.{inbound, outbound, readAnswer, writeAnswer, bufferAfter}
+use Rattle.wire.specs.Layout.{Layout, layout_for}
+use Rattle.wire.specs.Messages.{inbound, outbound, read_answer, write_answer, buffer_after}
 
 -- the reader's answer where it refuses, and otherwise the writer's
-unfoldable pub echoAnswer : Layout → List ℕ → List ℕ → Answer
-echoAnswer l s out = ifDone (readAnswer l s) (writeAnswer l s out) (readAnswer l s)
+unfoldable pub echo_answer : Layout → List ℕ → List ℕ → Answer
+echo_answer l s out = if_done (read_answer l s) (write_answer l s out) (read_answer l s)
 
 -- only a message that was read is written
 unfoldable pub echoed : Layout → List ℕ → List ℕ → List ℕ
-echoed l s out = ifDone (readAnswer l s) (bufferAfter l s out) out
+echoed l s out = if_done (read_answer l s) (buffer_after l s out) out
 
 -- the same where the type says which layout it is; a type that none has is 2
-abbrev pub answerFor : Option Layout → List ℕ → List ℕ → Answer
-answerFor none s out = Malformed
-answerFor (some l) s out = echoAnswer l s out
+abbrev pub answer_for : Option Layout → List ℕ → List ℕ → Answer
+answer_for none s out = Malformed
+answer_for (some l) s out = echo_answer l s out
 
-abbrev pub echoedFor : Option Layout → List ℕ → List ℕ → List ℕ
-echoedFor none s out = out
-echoedFor (some l) s out = echoed l s out
+abbrev pub echoed_for : Option Layout → List ℕ → List ℕ → List ℕ
+echoed_for none s out = out
+echoed_for (some l) s out = echoed l s out
 
-unfoldable pub answerAmong : List Layout → List ℕ → List ℕ → Answer
-answerAmong ls s out = answerFor (layoutFor ls (get_or s 0 0)) s out
+unfoldable pub answer_among : List Layout → List ℕ → List ℕ → Answer
+answer_among ls s out = answer_for (layout_for ls (get_or s 0 0)) s out
 
-unfoldable pub echoedAmong : List Layout → List ℕ → List ℕ → List ℕ
-echoedAmong ls s out = echoedFor (layoutFor ls (get_or s 0 0)) s out
+unfoldable pub echoed_among : List Layout → List ℕ → List ℕ → List ℕ
+echoed_among ls s out = echoed_for (layout_for ls (get_or s 0 0)) s out
 
-abbrev pub messageAnswer : Bool → List ℕ → List ℕ → Answer
-messageAnswer isInbound s out = answerAmong (pick isInbound inbound outbound) s out
+abbrev pub message_answer : Bool → List ℕ → List ℕ → Answer
+message_answer is_inbound s out = answer_among (pick is_inbound inbound outbound) s out
 
-abbrev pub messageEchoed : Bool → List ℕ → List ℕ → List ℕ
-messageEchoed isInbound s out = echoedAmong (pick isInbound inbound outbound) s out
+abbrev pub message_echoed : Bool → List ℕ → List ℕ → List ℕ
+message_echoed is_inbound s out = echoed_among (pick is_inbound inbound outbound) s out

@@ -1,7 +1,7 @@
 // The four messages that a client sends, read and written back.
 ghost use Rattle.std.specs.Prelude.{◌≡◌};
-ghost use Rattle.wire.specs.Messages.{enterOrder, replaceOrder, cancelOrder, modifyOrder, inbound};
-ghost use Rattle.echo.specs.Echo.{echoAnswer, echoed, answerAmong, echoedAmong};
+ghost use Rattle.wire.specs.Messages.{enter_order, replace_order, cancel_order, modify_order, inbound};
+ghost use Rattle.echo.specs.Echo.{echo_answer, echoed, answer_among, echoed_among};
 
 use answers::{Answer, is_done};
 use inbound::cancel_order::{read_cancel_order, write_cancel_order};
@@ -11,7 +11,7 @@ use inbound::replace_order::{read_replace_order, write_replace_order};
 
 // By the type.
 pub(crate) fn echo_inbound(s: &[u8], out: &mut [u8]) -> Answer
-    ensures { (result ≡ answerAmong inbound s.now out.old) × (out.new ≡ echoedAmong inbound s.now out.old) }
+    ensures { (result ≡ answer_among inbound s.now out.old) × (out.new ≡ echoed_among inbound s.now out.old) }
 {
     if s.len() == 0 {
         return Answer::Malformed;
@@ -26,7 +26,7 @@ pub(crate) fn echo_inbound(s: &[u8], out: &mut [u8]) -> Answer
 }
 
 fn echo_enter_order(s: &[u8], out: &mut [u8]) -> Answer
-    ensures { (result ≡ echoAnswer enterOrder s.now out.old) × (out.new ≡ echoed enterOrder s.now out.old) }
+    ensures { (result ≡ echo_answer enter_order s.now out.old) × (out.new ≡ echoed enter_order s.now out.old) }
 {
     let m = read_enter_order(s);
     let answer = m.answer;
@@ -38,7 +38,7 @@ fn echo_enter_order(s: &[u8], out: &mut [u8]) -> Answer
 }
 
 fn echo_replace_order(s: &[u8], out: &mut [u8]) -> Answer
-    ensures { (result ≡ echoAnswer replaceOrder s.now out.old) × (out.new ≡ echoed replaceOrder s.now out.old) }
+    ensures { (result ≡ echo_answer replace_order s.now out.old) × (out.new ≡ echoed replace_order s.now out.old) }
 {
     let m = read_replace_order(s);
     let answer = m.answer;
@@ -50,7 +50,7 @@ fn echo_replace_order(s: &[u8], out: &mut [u8]) -> Answer
 }
 
 fn echo_cancel_order(s: &[u8], out: &mut [u8]) -> Answer
-    ensures { (result ≡ echoAnswer cancelOrder s.now out.old) × (out.new ≡ echoed cancelOrder s.now out.old) }
+    ensures { (result ≡ echo_answer cancel_order s.now out.old) × (out.new ≡ echoed cancel_order s.now out.old) }
 {
     let m = read_cancel_order(s);
     let answer = m.answer;
@@ -62,7 +62,7 @@ fn echo_cancel_order(s: &[u8], out: &mut [u8]) -> Answer
 }
 
 fn echo_modify_order(s: &[u8], out: &mut [u8]) -> Answer
-    ensures { (result ≡ echoAnswer modifyOrder s.now out.old) × (out.new ≡ echoed modifyOrder s.now out.old) }
+    ensures { (result ≡ echo_answer modify_order s.now out.old) × (out.new ≡ echoed modify_order s.now out.old) }
 {
     let m = read_modify_order(s);
     let answer = m.answer;

@@ -1,7 +1,7 @@
 // The twelve messages that the host sends, read and written back.
 ghost use Rattle.std.specs.Prelude.{◌≡◌};
-ghost use Rattle.wire.specs.Messages.{systemEvent, accepted, replaced, canceled, aiqCancelled, executed, brokenTrade, rejected, cancelPending, cancelReject, priorityUpdate, modified, outbound};
-ghost use Rattle.echo.specs.Echo.{echoAnswer, echoed, answerAmong, echoedAmong};
+ghost use Rattle.wire.specs.Messages.{system_event, accepted, replaced, canceled, aiq_cancelled, executed, broken_trade, rejected, cancel_pending, cancel_reject, priority_update, modified, outbound};
+ghost use Rattle.echo.specs.Echo.{echo_answer, echoed, answer_among, echoed_among};
 
 use answers::{Answer, is_done};
 use outbound::accepted::{read_accepted, write_accepted};
@@ -19,7 +19,7 @@ use outbound::system_event::{read_system_event, write_system_event};
 
 // By the type.
 pub(crate) fn echo_outbound(s: &[u8], out: &mut [u8]) -> Answer
-    ensures { (result ≡ answerAmong outbound s.now out.old) × (out.new ≡ echoedAmong outbound s.now out.old) }
+    ensures { (result ≡ answer_among outbound s.now out.old) × (out.new ≡ echoed_among outbound s.now out.old) }
 {
     if s.len() == 0 {
         return Answer::Malformed;
@@ -42,7 +42,7 @@ pub(crate) fn echo_outbound(s: &[u8], out: &mut [u8]) -> Answer
 }
 
 fn echo_system_event(s: &[u8], out: &mut [u8]) -> Answer
-    ensures { (result ≡ echoAnswer systemEvent s.now out.old) × (out.new ≡ echoed systemEvent s.now out.old) }
+    ensures { (result ≡ echo_answer system_event s.now out.old) × (out.new ≡ echoed system_event s.now out.old) }
 {
     let m = read_system_event(s);
     let answer = m.answer;
@@ -54,7 +54,7 @@ fn echo_system_event(s: &[u8], out: &mut [u8]) -> Answer
 }
 
 fn echo_accepted(s: &[u8], out: &mut [u8]) -> Answer
-    ensures { (result ≡ echoAnswer accepted s.now out.old) × (out.new ≡ echoed accepted s.now out.old) }
+    ensures { (result ≡ echo_answer accepted s.now out.old) × (out.new ≡ echoed accepted s.now out.old) }
 {
     let m = read_accepted(s);
     let answer = m.answer;
@@ -66,7 +66,7 @@ fn echo_accepted(s: &[u8], out: &mut [u8]) -> Answer
 }
 
 fn echo_replaced(s: &[u8], out: &mut [u8]) -> Answer
-    ensures { (result ≡ echoAnswer replaced s.now out.old) × (out.new ≡ echoed replaced s.now out.old) }
+    ensures { (result ≡ echo_answer replaced s.now out.old) × (out.new ≡ echoed replaced s.now out.old) }
 {
     let m = read_replaced(s);
     let answer = m.answer;
@@ -78,7 +78,7 @@ fn echo_replaced(s: &[u8], out: &mut [u8]) -> Answer
 }
 
 fn echo_canceled(s: &[u8], out: &mut [u8]) -> Answer
-    ensures { (result ≡ echoAnswer canceled s.now out.old) × (out.new ≡ echoed canceled s.now out.old) }
+    ensures { (result ≡ echo_answer canceled s.now out.old) × (out.new ≡ echoed canceled s.now out.old) }
 {
     let m = read_canceled(s);
     let answer = m.answer;
@@ -90,7 +90,7 @@ fn echo_canceled(s: &[u8], out: &mut [u8]) -> Answer
 }
 
 fn echo_aiq_cancelled(s: &[u8], out: &mut [u8]) -> Answer
-    ensures { (result ≡ echoAnswer aiqCancelled s.now out.old) × (out.new ≡ echoed aiqCancelled s.now out.old) }
+    ensures { (result ≡ echo_answer aiq_cancelled s.now out.old) × (out.new ≡ echoed aiq_cancelled s.now out.old) }
 {
     let m = read_aiq_cancelled(s);
     let answer = m.answer;
@@ -102,7 +102,7 @@ fn echo_aiq_cancelled(s: &[u8], out: &mut [u8]) -> Answer
 }
 
 fn echo_executed(s: &[u8], out: &mut [u8]) -> Answer
-    ensures { (result ≡ echoAnswer executed s.now out.old) × (out.new ≡ echoed executed s.now out.old) }
+    ensures { (result ≡ echo_answer executed s.now out.old) × (out.new ≡ echoed executed s.now out.old) }
 {
     let m = read_executed(s);
     let answer = m.answer;
@@ -114,7 +114,7 @@ fn echo_executed(s: &[u8], out: &mut [u8]) -> Answer
 }
 
 fn echo_broken_trade(s: &[u8], out: &mut [u8]) -> Answer
-    ensures { (result ≡ echoAnswer brokenTrade s.now out.old) × (out.new ≡ echoed brokenTrade s.now out.old) }
+    ensures { (result ≡ echo_answer broken_trade s.now out.old) × (out.new ≡ echoed broken_trade s.now out.old) }
 {
     let m = read_broken_trade(s);
     let answer = m.answer;
@@ -126,7 +126,7 @@ fn echo_broken_trade(s: &[u8], out: &mut [u8]) -> Answer
 }
 
 fn echo_rejected(s: &[u8], out: &mut [u8]) -> Answer
-    ensures { (result ≡ echoAnswer rejected s.now out.old) × (out.new ≡ echoed rejected s.now out.old) }
+    ensures { (result ≡ echo_answer rejected s.now out.old) × (out.new ≡ echoed rejected s.now out.old) }
 {
     let m = read_rejected(s);
     let answer = m.answer;
@@ -138,7 +138,7 @@ fn echo_rejected(s: &[u8], out: &mut [u8]) -> Answer
 }
 
 fn echo_cancel_pending(s: &[u8], out: &mut [u8]) -> Answer
-    ensures { (result ≡ echoAnswer cancelPending s.now out.old) × (out.new ≡ echoed cancelPending s.now out.old) }
+    ensures { (result ≡ echo_answer cancel_pending s.now out.old) × (out.new ≡ echoed cancel_pending s.now out.old) }
 {
     let m = read_cancel_pending(s);
     let answer = m.answer;
@@ -150,7 +150,7 @@ fn echo_cancel_pending(s: &[u8], out: &mut [u8]) -> Answer
 }
 
 fn echo_cancel_reject(s: &[u8], out: &mut [u8]) -> Answer
-    ensures { (result ≡ echoAnswer cancelReject s.now out.old) × (out.new ≡ echoed cancelReject s.now out.old) }
+    ensures { (result ≡ echo_answer cancel_reject s.now out.old) × (out.new ≡ echoed cancel_reject s.now out.old) }
 {
     let m = read_cancel_reject(s);
     let answer = m.answer;
@@ -162,7 +162,7 @@ fn echo_cancel_reject(s: &[u8], out: &mut [u8]) -> Answer
 }
 
 fn echo_priority_update(s: &[u8], out: &mut [u8]) -> Answer
-    ensures { (result ≡ echoAnswer priorityUpdate s.now out.old) × (out.new ≡ echoed priorityUpdate s.now out.old) }
+    ensures { (result ≡ echo_answer priority_update s.now out.old) × (out.new ≡ echoed priority_update s.now out.old) }
 {
     let m = read_priority_update(s);
     let answer = m.answer;
@@ -174,7 +174,7 @@ fn echo_priority_update(s: &[u8], out: &mut [u8]) -> Answer
 }
 
 fn echo_modified(s: &[u8], out: &mut [u8]) -> Answer
-    ensures { (result ≡ echoAnswer modified s.now out.old) × (out.new ≡ echoed modified s.now out.old) }
+    ensures { (result ≡ echo_answer modified s.now out.old) × (out.new ≡ echoed modified s.now out.old) }
 {
     let m = read_modified(s);
     let answer = m.answer;

@@ -3,7 +3,7 @@ mod from_client;
 mod from_host;
 
 ghost use Rattle.std.specs.Prelude.{◌≡◌};
-ghost use Rattle.echo.specs.Echo.{messageAnswer, messageEchoed};
+ghost use Rattle.echo.specs.Echo.{message_answer, message_echoed};
 
 use answers::Answer;
 use from_client::echo_inbound;
@@ -11,7 +11,7 @@ use from_host::echo_outbound;
 
 // U and M are read as inbound or outbound, as the caller says.
 pub fn echo(inbound: bool, s: &[u8], out: &mut [u8]) -> Answer
-    ensures { (result ≡ messageAnswer inbound s.now out.old) × (out.new ≡ messageEchoed inbound s.now out.old) }
+    ensures { (result ≡ message_answer inbound s.now out.old) × (out.new ≡ message_echoed inbound s.now out.old) }
 {
     if inbound {
         return echo_inbound(s, out);

@@ -3,7 +3,7 @@ use Rattle.octets.proofs.Proving.{Bool, List, [], ◌++◌, ◌+◌, ◌-◌, �
 use Rattle.octets.specs.Choice.{pick}
 use Rattle.octets.specs.Bytes.{part}
 use Rattle.octets.proofs.Laws.{length_part}
-use Rattle.feed.specs.Feed.{Feed, Held, Refilled, Pieces, unread, Begins, Refills, behind, heldBy, whole, handedOut, Next}
+use Rattle.feed.specs.Feed.{Feed, Held, Refilled, Pieces, unread, Begins, Refills, behind, held_by, whole, handed_out, Next}
 
 pub begins-on : (a b c : List ℕ) → Begins a b → Begins b c → Begins a c
 begins-on a b c p q =
@@ -50,10 +50,10 @@ filled buffer more rest n k h g =
 
 -- what is handed out leaves the marks as they are, and one piece fewer
 pub next-piece : (p : Pieces) (f : Feed) (before after : List ℕ) (h : Held) (r : Feed) → Begins (behind before f) (unread after h)
-    → r ≡ handedOut p (unread after h) h f.left → Next p f before after r
-unfolding handedOut
+    → r ≡ handed_out p (unread after h) h f.left → Next p f before after r
+unfolding handed_out
 next-piece p f before after h r k e =
-    let same : heldBy r ≡ h = ap heldBy e in
+    let same : held_by r ≡ h = ap held_by e in
     record {
       kept = rw same k;
       cut = rw same e;

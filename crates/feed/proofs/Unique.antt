@@ -3,7 +3,7 @@
 use Rattle.octets.proofs.Proving.{List, ◌∙◌, ◌≡◌, ap, ap₂, sym, ℕ}
 use contract.Lifetimes.{Lfts}
 use Rattle.octets.proofs.Settles.{Settles, Settled, settled, one-result}
-use Rattle.feed.specs.Feed.{Held, Feed, unread, heldBy, handedOut}
+use Rattle.feed.specs.Feed.{Held, Feed, unread, held_by, handed_out}
 use Rattle.feed.proofs as feed
 
 pub begin-unique : Settled feed.begin.Reads.Post
@@ -19,6 +19,6 @@ pub piece-unique : (κs : Lfts 1) (a : _) → Settles {X = List ℕ} (feed.piece
 piece-unique κs a z z' e e' p p' = one-result p p'
 
 pub next-unique : (κs : Lfts 1) (a : _) (z z' : _) (e e' : _) → feed.next.Reads.Post κs a z e → feed.next.Reads.Post κs a z' e'
-    → e.1.0.now ≡ e'.1.0.now → heldBy z ≡ heldBy z' → z ≡ z'
+    → e.1.0.now ≡ e'.1.0.now → held_by z ≡ held_by z' → z ≡ z'
 next-unique κs a z z' e e' p p' b h =
-    p.cut ∙ ap₂ (λ (l : List ℕ) (m : Held). handedOut a.0 (unread l m) m a.1.1.0.left) b h ∙ sym p'.cut
+    p.cut ∙ ap₂ (λ (l : List ℕ) (m : Held). handed_out a.0 (unread l m) m a.1.1.0.left) b h ∙ sym p'.cut

@@ -7,7 +7,7 @@ pub mod pieces;
 mod refill;
 
 ghost use Rattle.std.specs.Prelude.{◌≡◌, ◌-◌, ◌≤◌, length};
-ghost use Rattle.feed.specs.Feed.{begun, piece_of, handedOut, sooner, ended, unread, past, heldBy, Next};
+ghost use Rattle.feed.specs.Feed.{begun, piece_of, handed_out, sooner, ended, unread, past, held_by, Next};
 
 use crate::held::{Held, past, unread};
 use crate::pieces::{Pieces, whole};
@@ -36,7 +36,7 @@ pub fn begin() -> Feed
 }
 
 fn held_by(feed: Feed) -> Held
-    ensures { result ≡ heldBy feed }
+    ensures { result ≡ held_by feed }
 {
     Held {
         at: feed.at,
@@ -55,7 +55,7 @@ pub fn piece(buffer: &[u8], feed: Feed) -> &[u8]
 
 // What was read behind it.
 fn behind(feed: Feed) -> Held
-    ensures { result ≡ past (heldBy feed) feed.len }
+    ensures { result ≡ past (held_by feed) feed.len }
 {
     past(held_by(feed), feed.len)
 }
@@ -68,7 +68,7 @@ fn fewer(left: u64) -> u64
 
 // The piece at the front of what is held. Where there is no whole one, and the input will not complete it, it is all that is held, and the last.
 fn handed_out(pieces: Pieces, buffer: &[u8], held: Held, left: u64) -> Feed
-    ensures { result ≡ handedOut pieces (unread buffer.now held) held left }
+    ensures { result ≡ handed_out pieces (unread buffer.now held) held left }
 {
     let bytes = unread(buffer, held);
     let n = whole(pieces, bytes);
@@ -123,13 +123,13 @@ pub fn over(feed: Feed) -> Feed
 // How many bytes are left over: those that are held from the last piece on, and all that the input still has. Nobody looks at them anymore,
 // so they are read over each other.
 pub fn rest(buffer: &mut [u8], feed: Feed) -> u64
-    ensures { length (unread buffer.old (heldBy feed)) ≤ result }
+    ensures { length (unread buffer.old (held_by feed)) ≤ result }
 {
     read_on(buffer, held_count(buffer, feed))
 }
 
 fn held_count(buffer: &[u8], feed: Feed) -> u64
-    ensures { result ≡ length (unread buffer.now (heldBy feed)) }
+    ensures { result ≡ length (unread buffer.now (held_by feed)) }
 {
     let bytes = unread(buffer, held_by(feed));
     bytes.len() as u64

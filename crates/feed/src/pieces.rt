@@ -1,6 +1,6 @@
 // What an input is cut into: the first byte of a piece says how long it is.
 ghost use Rattle.std.specs.Prelude.{◌≡◌};
-ghost use Rattle.feed.specs.Feed.{lengthBy, whole, waits};
+ghost use Rattle.feed.specs.Feed.{length_by, whole, waits};
 
 use purge::request_length;
 use tape::kinds::entry_length;
@@ -16,7 +16,7 @@ pub enum Pieces {
 
 // 0 for a letter that begins none.
 fn length_by(pieces: Pieces, letter: u8) -> usize
-    ensures { result ≡ lengthBy pieces letter }
+    ensures { result ≡ length_by pieces letter }
 {
     match pieces {
         Pieces::Entries => entry_length(letter),

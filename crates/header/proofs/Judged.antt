@@ -3,11 +3,11 @@ use Rattle.octets.proofs.Proving.{Bool, List, [], ◌&&◌, ◌∙◌, ◌∷◌
 use Rattle.octets.specs.Choice.{every}
 use Rattle.octets.specs.Bytes.{part, number_of}
 use Rattle.octets.proofs.Below.{every-at}
-use Rattle.wire.specs.Limits.{stampEnd}
-use Rattle.wire.specs.Layout.{badPlace, firstBadPlace, noBadPlace}
+use Rattle.wire.specs.Limits.{stamp_end}
+use Rattle.wire.specs.Layout.{bad_place, first_bad_place, no_bad_place}
 use Rattle.wire.proofs.NoneBad.{none-of-both, none-unless}
-use Rattle.header.specs.Limits.{tableForm, dayClosed, fewestFirms, mostFirms, firstReference, endOfReferences, lowestThreshold, highestThreshold}
-use Rattle.header.specs.Header.{headerOf, headerLayout}
+use Rattle.header.specs.Limits.{table_form, day_closed, fewest_firms, most_firms, first_reference, end_of_references, lowest_threshold, highest_threshold}
+use Rattle.header.specs.Header.{header_of, header_layout}
 
 -- a number between n and n is n
 between-same : (n x : ℕ) (rest : Bool) → (leb n x && (leb x n && rest)) ≡ (eqb x n && rest)
@@ -20,28 +20,28 @@ between-same n x rest =
       ]
     ]
 
-abbrev pub numberTests : List ℕ → List Bool
-numberTests s =
-    leb (number_of (part s 0 1)) dayClosed
-    ∷ leb fewestFirms (number_of (part s 1 1))
-    ∷ leb (number_of (part s 1 1)) mostFirms
-    ∷ eqb (number_of (part s 2 1)) tableForm
-    ∷ ltb (number_of (part s 8 8)) stampEnd
-    ∷ leb firstReference (number_of (part s 16 8))
-    ∷ leb (number_of (part s 16 8)) endOfReferences
-    ∷ leb lowestThreshold (number_of (part s 24 4))
-    ∷ leb (number_of (part s 24 4)) highestThreshold
+abbrev pub number_tests : List ℕ → List Bool
+number_tests s =
+    leb (number_of (part s 0 1)) day_closed
+    ∷ leb fewest_firms (number_of (part s 1 1))
+    ∷ leb (number_of (part s 1 1)) most_firms
+    ∷ eqb (number_of (part s 2 1)) table_form
+    ∷ ltb (number_of (part s 8 8)) stamp_end
+    ∷ leb first_reference (number_of (part s 16 8))
+    ∷ leb (number_of (part s 16 8)) end_of_references
+    ∷ leb lowest_threshold (number_of (part s 24 4))
+    ∷ leb (number_of (part s 24 4)) highest_threshold
     ∷ []
 
-pub number-tests : (s : List ℕ) → noBadPlace headerLayout s ≡ every (numberTests s)
-unfolding noBadPlace firstBadPlace badPlace
+pub number-tests : (s : List ℕ) → no_bad_place header_layout s ≡ every (number_tests s)
+unfolding no_bad_place first_bad_place bad_place
 number-tests s = simp (none-of-both, none-unless, leb·zero, and-true, and_assoc, between-same)
 
 -- a count that was judged is at most eight, before the firms are looked at
-pub count-judged : (s : List ℕ) → noBadPlace headerLayout s ≡ true → (headerOf s).count ≤ mostFirms
-unfolding headerOf
-count-judged s good = leb-true _ _ (every-at (numberTests s) 2 (sym (number-tests s) ∙ good))
+pub count-judged : (s : List ℕ) → no_bad_place header_layout s ≡ true → (header_of s).count ≤ most_firms
+unfolding header_of
+count-judged s good = leb-true _ _ (every-at (number_tests s) 2 (sym (number-tests s) ∙ good))
 
 -- and the form that was judged is the table's
-pub form-judged : (s : List ℕ) → noBadPlace headerLayout s ≡ true → number_of (part s 2 1) ≡ tableForm
-form-judged s good = eqb-true _ _ (every-at (numberTests s) 3 (sym (number-tests s) ∙ good))
+pub form-judged : (s : List ℕ) → no_bad_place header_layout s ≡ true → number_of (part s 2 1) ≡ table_form
+form-judged s good = eqb-true _ _ (every-at (number_tests s) 3 (sym (number-tests s) ∙ good))

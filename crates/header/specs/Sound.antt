@@ -1,18 +1,18 @@
 -- When the header holds (Table and outbox, Header and Sound).
 use Rattle.std.specs.Prelude.{ℕ, ◌^◌, Bool, List, [], ◌∷◌, leb, ltb}
 use Rattle.octets.specs.Choice.{every}
-use Rattle.wire.specs.Layout.{noBadPlace}
-use Rattle.header.specs.Header.{headerLayout, headerOf}
-use Rattle.header.specs.Firms.{firmsShaped, restBlank}
+use Rattle.wire.specs.Layout.{no_bad_place}
+use Rattle.header.specs.Header.{header_layout, header_of}
+use Rattle.header.specs.Firms.{firms_shaped, rest_blank}
 
 -- the header holds, over n records
-unfoldable pub headerSound : List ℕ → ℕ → Bool
-headerSound s n =
-    let h = headerOf s in
+unfoldable pub header_sound : List ℕ → ℕ → Bool
+header_sound s n =
+    let h = header_of s in
     every
-    (noBadPlace headerLayout s
+    (no_bad_place header_layout s
     ∷ leb h.used n
-    ∷ firmsShaped h.firms h.count
-    ∷ restBlank h.firms h.count
+    ∷ firms_shaped h.firms h.count
+    ∷ rest_blank h.firms h.count
     ∷ ltb h.blocked (2 ^ h.count)  -- no bit past the firm count (Ask 5)
     ∷ [])

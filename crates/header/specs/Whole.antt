@@ -1,7 +1,7 @@
 -- What the types of the fields say of a header and of settings: numbers fit their widths, arrays are as long as they are declared. Code gives
 -- and takes no others.
 use Rattle.std.specs.Prelude.{◌≡◌, List, [], ◌∷◌, ℕ, ◌^◌, ◌<◌, length}
-use Rattle.header.specs.Limits.{firmSize, mostFirms}
+use Rattle.header.specs.Limits.{firm_size, most_firms}
 use Rattle.header.specs.Header.{Header}
 use Rattle.header.specs.Settings.{Firm, Settings}
 
@@ -17,9 +17,9 @@ pub record WholeHeader (h : Header) : Type 0 where
 
 abbrev pub WholeFirms : List Firm → Type 0
 WholeFirms [] = Unit {0}
-WholeFirms (f ∷ fs) = (length f.code ≡ firmSize) × WholeFirms fs
+WholeFirms (f ∷ fs) = (length f.code ≡ firm_size) × WholeFirms fs
 
 pub record WholeSettings (s : Settings) : Type 0 where
   pub threshold : s.threshold.0 < 256 ^ 4
-  pub places : length s.firms ≡ mostFirms
+  pub places : length s.firms ≡ most_firms
   pub codes : WholeFirms s.firms

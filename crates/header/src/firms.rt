@@ -1,7 +1,7 @@
 // The firms of a header: eight places of four bytes in a row, of which the first so many are listed.
 ghost use Rattle.std.specs.Prelude.{◌≡◌};
 ghost use Rattle.octets.specs.Bytes.{same};
-ghost use Rattle.header.specs.Firms.{firmAt, isBlank, meantFirm, isListed, firmPlace, firmBlocked, blockedWith, firmsShaped, restBlank};
+ghost use Rattle.header.specs.Firms.{firm_at, is_blank, meant_firm, is_listed, firm_place, firm_blocked, blocked_with, firms_shaped, rest_blank};
 
 use crate::Header;
 use octets::bits::{bit_of, with_bit};
@@ -15,7 +15,7 @@ pub const FIRM_SIZE: usize = 4;
 
 // The firm at place k; four zeros past the eighth.
 pub fn firm_at(firms: [u8; 32], k: usize) -> [u8; 4]
-    ensures { result ≡ firmAt firms k }
+    ensures { result ≡ firm_at firms k }
 {
     if k < MOST_FIRMS {
         return octets::bytes4_at(&firms, FIRM_SIZE * k);
@@ -24,14 +24,14 @@ pub fn firm_at(firms: [u8; 32], k: usize) -> [u8; 4]
 }
 
 pub fn is_blank(firm: [u8; 4]) -> bool
-    ensures { result ≡ isBlank firm }
+    ensures { result ≡ is_blank firm }
 {
     (firm[0] == b' ') & (firm[1] == b' ') & (firm[2] == b' ') & (firm[3] == b' ')
 }
 
 // A blank firm means the default.
 pub fn meant_firm(h: Header, firm: [u8; 4]) -> [u8; 4]
-    ensures { result ≡ meantFirm h firm }
+    ensures { result ≡ meant_firm h firm }
 {
     if is_blank(firm) {
         let firms = h.firms;
@@ -48,7 +48,7 @@ fn same_firm(a: [u8; 4], b: [u8; 4]) -> bool
 
 // The first place that holds the firm; the count where none does.
 pub fn firm_place(h: Header, firm: [u8; 4]) -> usize
-    ensures { result ≡ firmPlace h firm }
+    ensures { result ≡ firm_place h firm }
 {
     let firms = h.firms;
     let count = h.count as usize;
@@ -63,14 +63,14 @@ pub fn firm_place(h: Header, firm: [u8; 4]) -> usize
 }
 
 pub fn is_listed(h: Header, firm: [u8; 4]) -> bool
-    ensures { result ≡ isListed h firm }
+    ensures { result ≡ is_listed h firm }
 {
     firm_place(h, firm) < h.count as usize
 }
 
 // A place past the eighth has no bit, so the firm there is not blocked.
 pub fn firm_blocked(h: Header, firm: [u8; 4]) -> bool
-    ensures { result ≡ firmBlocked h firm }
+    ensures { result ≡ firm_blocked h firm }
 {
     let place = firm_place(h, firm);
     if place < MOST_FIRMS {
@@ -81,7 +81,7 @@ pub fn firm_blocked(h: Header, firm: [u8; 4]) -> bool
 
 // The header's blocked firms, with the one at this place blocked or not, as said.
 pub fn blocked_with(h: Header, place: usize, on: bool) -> u8
-    ensures { result ≡ blockedWith h place on }
+    ensures { result ≡ blocked_with h place on }
 {
     if place < least(h.count as usize, MOST_FIRMS) {
         return with_bit(h.blocked, place, on);
@@ -90,7 +90,7 @@ pub fn blocked_with(h: Header, place: usize, on: bool) -> u8
 }
 
 pub fn firms_shaped(firms: [u8; 32], count: usize) -> bool
-    ensures { result ≡ firmsShaped firms count }
+    ensures { result ≡ firms_shaped firms count }
 {
     let mut k: usize = 0;
     while k < count {
@@ -106,7 +106,7 @@ pub fn firms_shaped(firms: [u8; 32], count: usize) -> bool
 
 // The places past the count hold zeros.
 pub(crate) fn rest_blank(firms: [u8; 32], count: usize) -> bool
-    ensures { result ≡ restBlank firms count }
+    ensures { result ≡ rest_blank firms count }
 {
     let mut ok = true;
     let mut k: usize = 0;

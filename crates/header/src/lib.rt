@@ -6,8 +6,8 @@ pub mod sound;
 
 ghost use Rattle.std.specs.Prelude.{◌≡◌, length};
 ghost use Rattle.octets.specs.Bytes.{put};
-ghost use Rattle.header.specs.Limits.{sumPlace};
-ghost use Rattle.header.specs.Header.{headerOf, headerBytes, isOpenDay};
+ghost use Rattle.header.specs.Limits.{sum_place};
+ghost use Rattle.header.specs.Header.{header_of, header_bytes, is_open_day};
 ghost use Rattle.header.specs.Runs.{moments, standing};
 
 use wire::shares::Total;
@@ -52,8 +52,8 @@ pub struct Header {
 }
 
 pub fn header_of(s: &[u8]) -> Header
-    requires { length s.now ≡ sumPlace }
-    ensures { result ≡ headerOf s.now }
+    requires { length s.now ≡ sum_place }
+    ensures { result ≡ header_of s.now }
 {
     let threshold = Total(octets::be32(s, 24));
     let firms = octets::bytes32_at(s, 28);
@@ -71,7 +71,7 @@ pub fn header_of(s: &[u8]) -> Header
 
 // The bytes are written in two runs: what the steps of a day move, then what stands from the fresh call on but for the reference.
 fn put_moments(s: &mut [u8], h: Header)
-    requires { length s.old ≡ sumPlace }
+    requires { length s.old ≡ sum_place }
     ensures { (s.new ≡ put s.old 0 (moments h)) × (length (moments h) ≡ 16) }
 {
     octets::put_byte(s, 0, h.day);
@@ -83,7 +83,7 @@ fn put_moments(s: &mut [u8], h: Header)
 }
 
 fn put_standing(s: &mut [u8], h: Header)
-    requires { length s.old ≡ sumPlace }
+    requires { length s.old ≡ sum_place }
     ensures { (s.new ≡ put s.old 16 (standing h)) × (length (standing h) ≡ 44) }
 {
     let firms = h.firms;
@@ -94,15 +94,15 @@ fn put_standing(s: &mut [u8], h: Header)
 
 // The bytes of the header's value, over what is there.
 pub fn put_header(s: &mut [u8], h: Header)
-    requires { length s.old ≡ sumPlace }
-    ensures { (s.new ≡ headerBytes h) × (length (headerBytes h) ≡ sumPlace) }
+    requires { length s.old ≡ sum_place }
+    ensures { (s.new ≡ header_bytes h) × (length (header_bytes h) ≡ sum_place) }
 {
     put_moments(s, h);
     put_standing(s, h);
 }
 
 pub fn is_open_day(h: Header) -> bool
-    ensures { result ≡ isOpenDay h }
+    ensures { result ≡ is_open_day h }
 {
     h.day == OPEN
 }

@@ -1,8 +1,8 @@
 // What a fresh table is made from: the threshold, and the firms up to a count.
 ghost use Rattle.std.specs.Prelude.{◌≡◌, ◌+◌, ◌*◌, ◌≤◌, length};
 ghost use Rattle.octets.specs.Bytes.{put};
-ghost use Rattle.header.specs.Limits.{firmSize};
-ghost use Rattle.header.specs.Settings.{settingsGood, listedFirms, freshHeader};
+ghost use Rattle.header.specs.Limits.{firm_size};
+ghost use Rattle.header.specs.Settings.{settings_good, listed_firms, fresh_header};
 
 use crate::firms::{FIRM_SIZE, MOST_FIRMS, firms_shaped};
 use crate::{BEFORE, FIRST_REFERENCE, Header};
@@ -28,7 +28,7 @@ pub struct Settings {
 
 // The codes of the listed firms in a row, and zeros behind them.
 fn listed_firms(firms: [Firm; 8], count: usize) -> [u8; 32]
-    ensures { result ≡ listedFirms firms count }
+    ensures { result ≡ listed_firms firms count }
 {
     let mut row = [0u8; 32];
     let listed = least(count, MOST_FIRMS);
@@ -43,15 +43,15 @@ fn listed_firms(firms: [Firm; 8], count: usize) -> [u8; 32]
 
 // The code of firm k at its place in the row.
 fn put_code(row: &mut [u8], k: usize, firm: Firm)
-    requires { firmSize * k + firmSize ≤ length row.old }
-    ensures { (row.new ≡ put row.old (firmSize * k) firm.code) × (length firm.code ≡ firmSize) }
+    requires { firm_size * k + firm_size ≤ length row.old }
+    ensures { (row.new ≡ put row.old (firm_size * k) firm.code) × (length firm.code ≡ firm_size) }
 {
     let code = firm.code;
     octets::put_bytes4(row, FIRM_SIZE * k, code);
 }
 
 pub fn settings_good(settings: Settings) -> bool
-    ensures { result ≡ settingsGood settings }
+    ensures { result ≡ settings_good settings }
 {
     let threshold = settings.threshold.0;
     let count = settings.count as usize;
@@ -65,7 +65,7 @@ pub fn settings_good(settings: Settings) -> bool
 
 // Day 0, no firm blocked, nothing used, stamp 0, the first reference, and these settings.
 pub fn fresh_header(settings: Settings) -> Header
-    ensures { result ≡ freshHeader settings }
+    ensures { result ≡ fresh_header settings }
 {
     let given = settings.firms;
     let firms = listed_firms(given, settings.count as usize);

@@ -1,10 +1,10 @@
 // Writing a plan down, in the table and in the list of stocks: no other function of a step changes them.
 ghost use Rattle.std.specs.Prelude.{◌≡◌, true, ◌+◌, ◌≤◌};
-ghost use Rattle.header.specs.Limits.{endOfReferences};
-ghost use Rattle.stocks.specs.Stocks.{listGood};
-ghost use Rattle.table.specs.Limits.{mostRecords};
+ghost use Rattle.header.specs.Limits.{end_of_references};
+ghost use Rattle.stocks.specs.Stocks.{list_good};
+ghost use Rattle.table.specs.Limits.{most_records};
 ghost use Rattle.table.specs.Table.{header};
-ghost use Rattle.host.specs.Step.{oneIf, dayAfter, blockedAfter, storeIf, setIf, headerAfter, committed};
+ghost use Rattle.host.specs.Step.{one_if, day_after, blocked_after, store_if, set_if, header_after, committed};
 
 use header::Header;
 use header::firms::blocked_with;
@@ -17,7 +17,7 @@ use tape::entry::StockState;
 
 // An order of state 0 stands for none, and nothing is stored.
 fn store_if(table: &mut [u8], i: usize, o: Order)
-    ensures { table.new ≡ storeIf table.old i o }
+    ensures { table.new ≡ store_if table.old i o }
 {
     if is_used(o) {
         store_order(table, i, o);
@@ -26,7 +26,7 @@ fn store_if(table: &mut [u8], i: usize, o: Order)
 
 // The day that begins, or the day as it is.
 fn day_after(day: u8, begins: Begins) -> u8
-    ensures { result ≡ dayAfter day begins }
+    ensures { result ≡ day_after day begins }
 {
     match begins {
         Begins::Nothing => day,
@@ -37,7 +37,7 @@ fn day_after(day: u8, begins: Begins) -> u8
 
 // The blocked firms' bits, with that of a firm that is blocked or let in again.
 fn blocked_after(h: Header, begins: Begins) -> u8
-    ensures { result ≡ blockedAfter h begins }
+    ensures { result ≡ blocked_after h begins }
 {
     match begins {
         Begins::Nothing => h.blocked,
@@ -48,8 +48,8 @@ fn blocked_after(h: Header, begins: Begins) -> u8
 
 // One more record is used, or none.
 fn counted(used: u32, more: bool) -> u32
-    requires { used ≤ mostRecords }
-    ensures { result ≡ used + oneIf more }
+    requires { used ≤ most_records }
+    ensures { result ≡ used + one_if more }
 {
     if more {
         return used + 1;
@@ -59,8 +59,8 @@ fn counted(used: u32, more: bool) -> u32
 
 // One more reference is taken, or none.
 fn numbered(reference: u64, more: bool) -> u64
-    requires { reference ≤ endOfReferences }
-    ensures { result ≡ reference + oneIf more }
+    requires { reference ≤ end_of_references }
+    ensures { result ≡ reference + one_if more }
 {
     if more {
         return reference + 1;
@@ -70,8 +70,8 @@ fn numbered(reference: u64, more: bool) -> u64
 
 // The header after a done entry: its stamp, and what the plan begins, uses and takes.
 fn header_after(h: Header, stamp: u64, plan: Plan) -> Header
-    requires { (h.used ≤ mostRecords) × (h.reference ≤ endOfReferences) }
-    ensures { result ≡ headerAfter h stamp plan }
+    requires { (h.used ≤ most_records) × (h.reference ≤ end_of_references) }
+    ensures { result ≡ header_after h stamp plan }
 {
     let added = plan.added;
     let begins = plan.begins;
@@ -95,7 +95,7 @@ fn header_after(h: Header, stamp: u64, plan: Plan) -> Header
 
 // The named order in its own record, the added one behind the used records, and the header.
 pub(crate) fn commit(table: &mut [u8], h: Header, place: usize, stamp: u64, plan: Plan)
-    requires { (h ≡ header table.old) × ((h.used ≤ mostRecords) × (h.reference ≤ endOfReferences)) }
+    requires { (h ≡ header table.old) × ((h.used ≤ most_records) × (h.reference ≤ end_of_references)) }
     ensures { table.new ≡ committed table.old place stamp plan }
 {
     let changed = plan.changed;
@@ -107,8 +107,8 @@ pub(crate) fn commit(table: &mut [u8], h: Header, place: usize, stamp: u64, plan
 
 // A stock of state 0 stands for none, and no state is set.
 pub(crate) fn set_if(stocks: &mut [u8], stock: StockState)
-    requires { listGood stocks.old ≡ true }
-    ensures { stocks.new ≡ setIf stocks.old stock }
+    requires { list_good stocks.old ≡ true }
+    ensures { stocks.new ≡ set_if stocks.old stock }
 {
     if stock.state != 0 {
         let symbol = stock.symbol;

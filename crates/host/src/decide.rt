@@ -1,13 +1,13 @@
 // What an entry comes to, from the table, the list of stocks and the entry alone: no function here is given the ring.
 ghost use Rattle.std.specs.Prelude.{◌≡◌, true, length};
-ghost use Rattle.stocks.specs.Stocks.{listGood, standingIn};
-ghost use Rattle.table.specs.Table.{header, orderNamed};
+ghost use Rattle.stocks.specs.Stocks.{list_good, standing_in};
+ghost use Rattle.table.specs.Table.{header, order_named};
 ghost use Rattle.tape.specs.Kinds.{kind_of};
-ghost use Rattle.tape.specs.Entries.{wellFormed, enterOf, replaceOf, stockStateOf};
-ghost use Rattle.rules.specs.Enter.{enterRule};
-ghost use Rattle.rules.specs.Replace.{replaceRule};
-ghost use Rattle.market.specs.Halt.{haltRule};
-ghost use Rattle.host.specs.Step.{books, namedPlace, decideBy, decide, withinLimits};
+ghost use Rattle.tape.specs.Entries.{well_formed, enter_of, replace_of, stock_state_of};
+ghost use Rattle.rules.specs.Enter.{enter_rule};
+ghost use Rattle.rules.specs.Replace.{replace_rule};
+ghost use Rattle.market.specs.Halt.{halt_rule};
+ghost use Rattle.host.specs.Step.{books, named_place, decide_by, decide, within_limits};
 
 use answers::{Answer, is_done};
 use header::{END_OF_REFERENCES, Header};
@@ -41,8 +41,8 @@ pub(crate) fn comes_to(
     h: Header,
     place: usize,
 ) -> Decision
-    requires { (wellFormed entry.now ≡ true) × ((listGood stocks.now ≡ true) × ((h ≡ header table.now) × (place ≡ namedPlace table.now entry.now))) }
-    ensures { result ≡ withinLimits table.now (decide (books table.now stocks.now) entry.now) }
+    requires { (well_formed entry.now ≡ true) × ((list_good stocks.now ≡ true) × ((h ≡ header table.now) × (place ≡ named_place table.now entry.now))) }
+    ensures { result ≡ within_limits table.now (decide (books table.now stocks.now) entry.now) }
 {
     let named = order_from(table, place);
     within_limits(table, h, decide(table, stocks, entry, h, named))
@@ -50,8 +50,8 @@ pub(crate) fn comes_to(
 
 // The rule of the entry's kind. `named` is the order that the entry names.
 fn decide(table: &[u8], stocks: &[u8], entry: &[u8], h: Header, named: Order) -> Decision
-    requires { (wellFormed entry.now ≡ true) × (listGood stocks.now ≡ true) }
-    ensures { result ≡ decideBy (kind_of entry.now) h named (orderNamed table.now (replaceOf entry.now).replacement) stocks.now entry.now }
+    requires { (well_formed entry.now ≡ true) × (list_good stocks.now ≡ true) }
+    ensures { result ≡ decide_by (kind_of entry.now) h named (order_named table.now (replace_of entry.now).replacement) stocks.now entry.now }
 {
     match kind_of(entry) {
         Kind::Enters => decide_enter(stocks, entry, h, named),
@@ -74,8 +74,8 @@ fn decide(table: &[u8], stocks: &[u8], entry: &[u8], h: Header, named: Order) ->
 }
 
 fn decide_enter(stocks: &[u8], entry: &[u8], h: Header, named: Order) -> Decision
-    requires { (length entry.now ≡ 56) × (listGood stocks.now ≡ true) }
-    ensures { result ≡ enterRule h named (standingIn stocks.now (enterOf entry.now).stock) (enterOf entry.now) }
+    requires { (length entry.now ≡ 56) × (list_good stocks.now ≡ true) }
+    ensures { result ≡ enter_rule h named (standing_in stocks.now (enter_of entry.now).stock) (enter_of entry.now) }
 {
     let e = enter_of(entry);
     let stock = e.stock;
@@ -84,8 +84,8 @@ fn decide_enter(stocks: &[u8], entry: &[u8], h: Header, named: Order) -> Decisio
 
 // A Replace names two tokens, the existing one and its own, and its stock is that of the order that it replaces.
 fn decide_replace(table: &[u8], stocks: &[u8], entry: &[u8], h: Header, named: Order) -> Decision
-    requires { (length entry.now ≡ 55) × (listGood stocks.now ≡ true) }
-    ensures { result ≡ replaceRule h named (orderNamed table.now (replaceOf entry.now).replacement) (standingIn stocks.now named.details.kept.stock) (replaceOf entry.now) }
+    requires { (length entry.now ≡ 55) × (list_good stocks.now ≡ true) }
+    ensures { result ≡ replace_rule h named (order_named table.now (replace_of entry.now).replacement) (standing_in stocks.now named.details.kept.stock) (replace_of entry.now) }
 {
     let e = replace_of(entry);
     let replacement = e.replacement;
@@ -95,8 +95,8 @@ fn decide_replace(table: &[u8], stocks: &[u8], entry: &[u8], h: Header, named: O
 }
 
 fn decide_halt(stocks: &[u8], entry: &[u8]) -> Decision
-    requires { (length entry.now ≡ 18) × (listGood stocks.now ≡ true) }
-    ensures { result ≡ haltRule (standingIn stocks.now (stockStateOf entry.now).symbol) (stockStateOf entry.now) }
+    requires { (length entry.now ≡ 18) × (list_good stocks.now ≡ true) }
+    ensures { result ≡ halt_rule (standing_in stocks.now (stock_state_of entry.now).symbol) (stock_state_of entry.now) }
 {
     let e = stock_state_of(entry);
     let symbol = e.symbol;
@@ -106,7 +106,7 @@ fn decide_halt(stocks: &[u8], entry: &[u8]) -> Decision
 // 8: a token must be stored and no record is free, or a reference is needed and none is left. Asked of the plan, so that no rule asks it.
 fn within_limits(table: &[u8], h: Header, d: Decision) -> Decision
     requires { h ≡ header table.now }
-    ensures { result ≡ withinLimits table.now d }
+    ensures { result ≡ within_limits table.now d }
 {
     let answer = d.answer;
     let added = d.plan.added;

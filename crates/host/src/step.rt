@@ -1,13 +1,13 @@
 // One step: judge, read, decide, ask for room, write. Nothing is written before the last question is answered, so a refusal changes nothing.
 ghost use Rattle.std.specs.Prelude.{◌≡◌, true, ◌≤◌, length, take};
 ghost use Rattle.answers.specs.declared.Answer.TheVariants.{Done};
-ghost use Rattle.header.specs.Limits.{endOfReferences};
-ghost use Rattle.outbox.specs.Outbox.{ringGood, freeBytes, ringWith, marksWith};
-ghost use Rattle.stocks.specs.Stocks.{listGood};
-ghost use Rattle.table.specs.Limits.{mostRecords};
+ghost use Rattle.header.specs.Limits.{end_of_references};
+ghost use Rattle.outbox.specs.Outbox.{ring_good, free_bytes, ring_with, marks_with};
+ghost use Rattle.stocks.specs.Stocks.{list_good};
+ghost use Rattle.table.specs.Limits.{most_records};
 ghost use Rattle.table.specs.Table.{sound, header};
-ghost use Rattle.tape.specs.Entries.{wellFormed, entryAnswer};
-ghost use Rattle.host.specs.Step.{step, offer, settle, carriedOut, namedPlace, world, Leaves};
+ghost use Rattle.tape.specs.Entries.{well_formed, entry_answer};
+ghost use Rattle.host.specs.Step.{step, offer, settle, carried_out, named_place, world, Leaves};
 
 use crate::commit::{commit, set_if};
 use crate::decide::comes_to;
@@ -72,7 +72,7 @@ pub fn offer(
     stocks: &mut [u8],
     entry: &[u8],
 ) -> Stepped
-    requires { (sound table.old ≡ true) × ((ringGood (length ring.old) marks ≡ true) × (listGood stocks.old ≡ true)) }
+    requires { (sound table.old ≡ true) × ((ring_good (length ring.old) marks ≡ true) × (list_good stocks.old ≡ true)) }
     ensures { Leaves (offer (world table.old ring.old marks stocks.old) entry.now) result.answer result.marks table.new ring.new stocks.new }
 {
     let fault = judge(entry);
@@ -87,7 +87,7 @@ pub fn offer(
 
 // A legal entry: in time or not, and then what it comes to.
 fn take(table: &mut [u8], ring: &mut [u8], marks: Marks, stocks: &mut [u8], entry: &[u8]) -> Stepped
-    requires { (sound table.old ≡ true) × ((ringGood (length ring.old) marks ≡ true) × ((listGood stocks.old ≡ true) × (entryAnswer entry.now ≡ Done))) }
+    requires { (sound table.old ≡ true) × ((ring_good (length ring.old) marks ≡ true) × ((list_good stocks.old ≡ true) × (entry_answer entry.now ≡ Done))) }
     ensures { Leaves (offer (world table.old ring.old marks stocks.old) entry.now) result.answer result.marks table.new ring.new stocks.new }
 {
     let h = header(table);
@@ -105,8 +105,8 @@ fn take(table: &mut [u8], ring: &mut [u8], marks: Marks, stocks: &mut [u8], entr
 
 // Where the order stands that the entry names, in w by a firm and a symbol; behind the used records for s h d n, which name none.
 fn named_place(table: &[u8], entry: &[u8]) -> usize
-    requires { (sound table.now ≡ true) × (wellFormed entry.now ≡ true) }
-    ensures { result ≡ namedPlace table.now entry.now }
+    requires { (sound table.now ≡ true) × (well_formed entry.now ≡ true) }
+    ensures { result ≡ named_place table.now entry.now }
 {
     if names_order(entry) {
         return find(table, token_of(entry));
@@ -128,7 +128,7 @@ fn settle(
     stamp: u64,
     d: Decision,
 ) -> Stepped
-    requires { (ringGood (length ring.old) marks ≡ true) × ((listGood stocks.old ≡ true) × ((h ≡ header table.old) × ((h.used ≤ mostRecords) × (h.reference ≤ endOfReferences)))) }
+    requires { (ring_good (length ring.old) marks ≡ true) × ((list_good stocks.old ≡ true) × ((h ≡ header table.old) × ((h.used ≤ most_records) × (h.reference ≤ end_of_references)))) }
     ensures { Leaves (settle (world table.old ring.old marks stocks.old) place stamp d) result.answer result.marks table.new ring.new stocks.new }
 {
     let answer = d.answer;
@@ -150,8 +150,8 @@ fn carry_out(
     stamp: u64,
     plan: Plan,
 ) -> Stepped
-    requires { (ringGood (length ring.old) marks ≡ true) × ((listGood stocks.old ≡ true) × ((h ≡ header table.old) × ((h.used ≤ mostRecords) × (h.reference ≤ endOfReferences)))) }
-    ensures { Leaves (carriedOut (world table.old ring.old marks stocks.old) place stamp plan) result.answer result.marks table.new ring.new stocks.new }
+    requires { (ring_good (length ring.old) marks ≡ true) × ((list_good stocks.old ≡ true) × ((h ≡ header table.old) × ((h.used ≤ most_records) × (h.reference ≤ end_of_references)))) }
+    ensures { Leaves (carried_out (world table.old ring.old marks stocks.old) place stamp plan) result.answer result.marks table.new ring.new stocks.new }
 {
     let sent = message(stamp, plan);
     let bytes = sent.bytes;
@@ -174,8 +174,8 @@ fn carry_out(
 
 // The first `len` bytes go behind the held ones.
 fn append_front(ring: &mut [u8], marks: Marks, bytes: &[u8], len: usize) -> Marks
-    requires { (ringGood (length ring.old) marks ≡ true) × ((len ≤ freeBytes (length ring.old) marks) × (len ≤ length bytes.now)) }
-    ensures { (result ≡ marksWith marks len) × (ring.new ≡ ringWith ring.old marks (take len bytes.now)) }
+    requires { (ring_good (length ring.old) marks ≡ true) × ((len ≤ free_bytes (length ring.old) marks) × (len ≤ length bytes.now)) }
+    ensures { (result ≡ marks_with marks len) × (ring.new ≡ ring_with ring.old marks (take len bytes.now)) }
 {
     append(ring, marks, &bytes[0..len])
 }

@@ -2,7 +2,7 @@
 -- what its reader gives.
 use Rattle.std.specs.Prelude.{ℕ, List}
 use Rattle.wire.specs.Layout.{Values, ◌&◌, FromFields, reading, spell}
-use Rattle.wire.specs.Messages.{enterOrder, replaceOrder, cancelOrder, modifyOrder, readAnswer, legalOrZeros}
+use Rattle.wire.specs.Messages.{enter_order, replace_order, cancel_order, modify_order, read_answer, legal_or_zeros}
 use Rattle.wire.specs.Shares.{total, removed}
 pub use Rattle.inbound.specs.declared.enter_order.EnterOrder.{EnterOrder}
 pub use Rattle.inbound.specs.declared.enter_order.EnterOrderRead.{EnterOrderRead}
@@ -15,8 +15,8 @@ pub use Rattle.inbound.specs.declared.modify_order.ModifyOrderRead.{ModifyOrderR
 
 -- ---- Enter Order
 
-abbrev pub enterOrderMade : FromFields enterOrder.fields EnterOrder
-enterOrderMade token side shares stock price time firm display capacity sweep minimum cross = record {
+abbrev pub enter_order_made : FromFields enter_order.fields EnterOrder
+enter_order_made token side shares stock price time firm display capacity sweep minimum cross = record {
   token = token;
   side = side;
   shares = total shares;
@@ -31,24 +31,24 @@ enterOrderMade token side shares stock price time firm display capacity sweep mi
   cross = cross;
 }
 
-unfoldable pub enterOrderOf : List ℕ → EnterOrder
-enterOrderOf s = reading enterOrder.fields s enterOrderMade
+unfoldable pub enter_order_of : List ℕ → EnterOrder
+enter_order_of s = reading enter_order.fields s enter_order_made
 
-abbrev pub enterOrderValues : EnterOrder → Values enterOrder.fields
-enterOrderValues m =
+abbrev pub enter_order_values : EnterOrder → Values enter_order.fields
+enter_order_values m =
     m.token & m.side & m.shares.0 & m.stock & m.price & m.time & m.firm & m.display & m.capacity &
     m.sweep & m.minimum.0 & m.cross & tt
 
-unfoldable pub enterOrderBytes : EnterOrder → List ℕ
-enterOrderBytes m = spell enterOrder (enterOrderValues m)
+unfoldable pub enter_order_bytes : EnterOrder → List ℕ
+enter_order_bytes m = spell enter_order (enter_order_values m)
 
-abbrev pub readEnterOrder : List ℕ → EnterOrderRead
-readEnterOrder s = record { answer = readAnswer enterOrder s; body = enterOrderOf (legalOrZeros enterOrder s) }
+abbrev pub read_enter_order : List ℕ → EnterOrderRead
+read_enter_order s = record { answer = read_answer enter_order s; body = enter_order_of (legal_or_zeros enter_order s) }
 
 -- ---- Replace Order
 
-abbrev pub replaceOrderMade : FromFields replaceOrder.fields ReplaceOrder
-replaceOrderMade existing replacement shares price time display sweep minimum = record {
+abbrev pub replace_order_made : FromFields replace_order.fields ReplaceOrder
+replace_order_made existing replacement shares price time display sweep minimum = record {
   existing = existing;
   replacement = replacement;
   shares = total shares;
@@ -59,55 +59,55 @@ replaceOrderMade existing replacement shares price time display sweep minimum = 
   minimum = removed minimum;
 }
 
-unfoldable pub replaceOrderOf : List ℕ → ReplaceOrder
-replaceOrderOf s = reading replaceOrder.fields s replaceOrderMade
+unfoldable pub replace_order_of : List ℕ → ReplaceOrder
+replace_order_of s = reading replace_order.fields s replace_order_made
 
-abbrev pub replaceOrderValues : ReplaceOrder → Values replaceOrder.fields
-replaceOrderValues m = m.existing & m.replacement & m.shares.0 & m.price & m.time & m.display & m.sweep & m.minimum.0 & tt
+abbrev pub replace_order_values : ReplaceOrder → Values replace_order.fields
+replace_order_values m = m.existing & m.replacement & m.shares.0 & m.price & m.time & m.display & m.sweep & m.minimum.0 & tt
 
-unfoldable pub replaceOrderBytes : ReplaceOrder → List ℕ
-replaceOrderBytes m = spell replaceOrder (replaceOrderValues m)
+unfoldable pub replace_order_bytes : ReplaceOrder → List ℕ
+replace_order_bytes m = spell replace_order (replace_order_values m)
 
-abbrev pub readReplaceOrder : List ℕ → ReplaceOrderRead
-readReplaceOrder s = record { answer = readAnswer replaceOrder s; body = replaceOrderOf (legalOrZeros replaceOrder s) }
+abbrev pub read_replace_order : List ℕ → ReplaceOrderRead
+read_replace_order s = record { answer = read_answer replace_order s; body = replace_order_of (legal_or_zeros replace_order s) }
 
 -- ---- Cancel Order
 
-abbrev pub cancelOrderMade : FromFields cancelOrder.fields CancelOrder
-cancelOrderMade token size = record {
+abbrev pub cancel_order_made : FromFields cancel_order.fields CancelOrder
+cancel_order_made token size = record {
   token = token;
   size = total size;
 }
 
-unfoldable pub cancelOrderOf : List ℕ → CancelOrder
-cancelOrderOf s = reading cancelOrder.fields s cancelOrderMade
+unfoldable pub cancel_order_of : List ℕ → CancelOrder
+cancel_order_of s = reading cancel_order.fields s cancel_order_made
 
-abbrev pub cancelOrderValues : CancelOrder → Values cancelOrder.fields
-cancelOrderValues m = m.token & m.size.0 & tt
+abbrev pub cancel_order_values : CancelOrder → Values cancel_order.fields
+cancel_order_values m = m.token & m.size.0 & tt
 
-unfoldable pub cancelOrderBytes : CancelOrder → List ℕ
-cancelOrderBytes m = spell cancelOrder (cancelOrderValues m)
+unfoldable pub cancel_order_bytes : CancelOrder → List ℕ
+cancel_order_bytes m = spell cancel_order (cancel_order_values m)
 
-abbrev pub readCancelOrder : List ℕ → CancelOrderRead
-readCancelOrder s = record { answer = readAnswer cancelOrder s; body = cancelOrderOf (legalOrZeros cancelOrder s) }
+abbrev pub read_cancel_order : List ℕ → CancelOrderRead
+read_cancel_order s = record { answer = read_answer cancel_order s; body = cancel_order_of (legal_or_zeros cancel_order s) }
 
 -- ---- Modify Order
 
-abbrev pub modifyOrderMade : FromFields modifyOrder.fields ModifyOrder
-modifyOrderMade token side shares = record {
+abbrev pub modify_order_made : FromFields modify_order.fields ModifyOrder
+modify_order_made token side shares = record {
   token = token;
   side = side;
   shares = total shares;
 }
 
-unfoldable pub modifyOrderOf : List ℕ → ModifyOrder
-modifyOrderOf s = reading modifyOrder.fields s modifyOrderMade
+unfoldable pub modify_order_of : List ℕ → ModifyOrder
+modify_order_of s = reading modify_order.fields s modify_order_made
 
-abbrev pub modifyOrderValues : ModifyOrder → Values modifyOrder.fields
-modifyOrderValues m = m.token & m.side & m.shares.0 & tt
+abbrev pub modify_order_values : ModifyOrder → Values modify_order.fields
+modify_order_values m = m.token & m.side & m.shares.0 & tt
 
-unfoldable pub modifyOrderBytes : ModifyOrder → List ℕ
-modifyOrderBytes m = spell modifyOrder (modifyOrderValues m)
+unfoldable pub modify_order_bytes : ModifyOrder → List ℕ
+modify_order_bytes m = spell modify_order (modify_order_values m)
 
-abbrev pub readModifyOrder : List ℕ → ModifyOrderRead
-readModifyOrder s = record { answer = readAnswer modifyOrder s; body = modifyOrderOf (legalOrZeros modifyOrder s) }
+abbrev pub read_modify_order : List ℕ → ModifyOrderRead
+read_modify_order s = record { answer = read_answer modify_order s; body = modify_order_of (legal_or_zeros modify_order s) }

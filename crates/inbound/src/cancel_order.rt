@@ -1,7 +1,7 @@
 // Cancel Order (X, 19 bytes): cuts an order down to an intended size, which is a total.
 ghost use Rattle.std.specs.Prelude.{◌≡◌, length};
-ghost use Rattle.wire.specs.Messages.{cancelOrder, writeAnswer, bufferAfter};
-ghost use Rattle.inbound.specs.Inbound.{cancelOrderOf, cancelOrderBytes, readCancelOrder};
+ghost use Rattle.wire.specs.Messages.{cancel_order, write_answer, buffer_after};
+ghost use Rattle.inbound.specs.Inbound.{cancel_order_of, cancel_order_bytes, read_cancel_order};
 
 use answers::Answer;
 use wire::frame::{legal_or_zeros, send};
@@ -24,7 +24,7 @@ pub struct CancelOrderRead {
 
 pub fn parse_cancel_order(s: &[u8]) -> CancelOrder
     requires { length s.now ≡ 19 }
-    ensures { result ≡ cancelOrderOf s.now }
+    ensures { result ≡ cancel_order_of s.now }
 {
     CancelOrder {
         token: octets::bytes14_at(s, 1),
@@ -33,7 +33,7 @@ pub fn parse_cancel_order(s: &[u8]) -> CancelOrder
 }
 
 pub fn read_cancel_order(s: &[u8]) -> CancelOrderRead
-    ensures { result ≡ readCancelOrder s.now }
+    ensures { result ≡ read_cancel_order s.now }
 {
     let answer = judge(s, CANCEL_ORDER);
     let zeros = [0u8; 19];
@@ -42,7 +42,7 @@ pub fn read_cancel_order(s: &[u8]) -> CancelOrderRead
 }
 
 pub fn write_cancel_order(buffer: &mut [u8], m: CancelOrder) -> Answer
-    ensures { (result ≡ writeAnswer cancelOrder (cancelOrderBytes m) buffer.old) × (buffer.new ≡ bufferAfter cancelOrder (cancelOrderBytes m) buffer.old) }
+    ensures { (result ≡ write_answer cancel_order (cancel_order_bytes m) buffer.old) × (buffer.new ≡ buffer_after cancel_order (cancel_order_bytes m) buffer.old) }
 {
     let token = m.token;
     let mut t = started(b'X');

@@ -1,7 +1,7 @@
 // Enter Order (O, 48 bytes): enters an order.
 ghost use Rattle.std.specs.Prelude.{◌≡◌, length};
-ghost use Rattle.wire.specs.Messages.{enterOrder, writeAnswer, bufferAfter};
-ghost use Rattle.inbound.specs.Inbound.{enterOrderOf, enterOrderBytes, readEnterOrder};
+ghost use Rattle.wire.specs.Messages.{enter_order, write_answer, buffer_after};
+ghost use Rattle.inbound.specs.Inbound.{enter_order_of, enter_order_bytes, read_enter_order};
 
 use answers::Answer;
 use wire::frame::{legal_or_zeros, send};
@@ -34,7 +34,7 @@ pub struct EnterOrderRead {
 
 pub fn parse_enter_order(s: &[u8]) -> EnterOrder
     requires { length s.now ≡ 48 }
-    ensures { result ≡ enterOrderOf s.now }
+    ensures { result ≡ enter_order_of s.now }
 {
     EnterOrder {
         token: octets::bytes14_at(s, 1),
@@ -53,7 +53,7 @@ pub fn parse_enter_order(s: &[u8]) -> EnterOrder
 }
 
 pub fn read_enter_order(s: &[u8]) -> EnterOrderRead
-    ensures { result ≡ readEnterOrder s.now }
+    ensures { result ≡ read_enter_order s.now }
 {
     let answer = judge(s, ENTER_ORDER);
     let zeros = [0u8; 48];
@@ -62,7 +62,7 @@ pub fn read_enter_order(s: &[u8]) -> EnterOrderRead
 }
 
 pub fn write_enter_order(buffer: &mut [u8], m: EnterOrder) -> Answer
-    ensures { (result ≡ writeAnswer enterOrder (enterOrderBytes m) buffer.old) × (buffer.new ≡ bufferAfter enterOrder (enterOrderBytes m) buffer.old) }
+    ensures { (result ≡ write_answer enter_order (enter_order_bytes m) buffer.old) × (buffer.new ≡ buffer_after enter_order (enter_order_bytes m) buffer.old) }
 {
     let token = m.token;
     let stock = m.stock;

@@ -1,7 +1,7 @@
 // Modify Order (M, 20 bytes): changes the side of an order or cuts its shares.
 ghost use Rattle.std.specs.Prelude.{◌≡◌, length};
-ghost use Rattle.wire.specs.Messages.{modifyOrder, writeAnswer, bufferAfter};
-ghost use Rattle.inbound.specs.Inbound.{modifyOrderOf, modifyOrderBytes, readModifyOrder};
+ghost use Rattle.wire.specs.Messages.{modify_order, write_answer, buffer_after};
+ghost use Rattle.inbound.specs.Inbound.{modify_order_of, modify_order_bytes, read_modify_order};
 
 use answers::Answer;
 use wire::frame::{legal_or_zeros, send};
@@ -25,7 +25,7 @@ pub struct ModifyOrderRead {
 
 pub fn parse_modify_order(s: &[u8]) -> ModifyOrder
     requires { length s.now ≡ 20 }
-    ensures { result ≡ modifyOrderOf s.now }
+    ensures { result ≡ modify_order_of s.now }
 {
     ModifyOrder {
         token: octets::bytes14_at(s, 1),
@@ -35,7 +35,7 @@ pub fn parse_modify_order(s: &[u8]) -> ModifyOrder
 }
 
 pub fn read_modify_order(s: &[u8]) -> ModifyOrderRead
-    ensures { result ≡ readModifyOrder s.now }
+    ensures { result ≡ read_modify_order s.now }
 {
     let answer = judge(s, MODIFY_ORDER);
     let zeros = [0u8; 20];
@@ -44,7 +44,7 @@ pub fn read_modify_order(s: &[u8]) -> ModifyOrderRead
 }
 
 pub fn write_modify_order(buffer: &mut [u8], m: ModifyOrder) -> Answer
-    ensures { (result ≡ writeAnswer modifyOrder (modifyOrderBytes m) buffer.old) × (buffer.new ≡ bufferAfter modifyOrder (modifyOrderBytes m) buffer.old) }
+    ensures { (result ≡ write_answer modify_order (modify_order_bytes m) buffer.old) × (buffer.new ≡ buffer_after modify_order (modify_order_bytes m) buffer.old) }
 {
     let token = m.token;
     let mut t = started(b'M');

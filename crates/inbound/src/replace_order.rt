@@ -1,7 +1,7 @@
 // Replace Order (U, 47 bytes): replaces a live order by another under a new token.
 ghost use Rattle.std.specs.Prelude.{◌≡◌, length};
-ghost use Rattle.wire.specs.Messages.{replaceOrder, writeAnswer, bufferAfter};
-ghost use Rattle.inbound.specs.Inbound.{replaceOrderOf, replaceOrderBytes, readReplaceOrder};
+ghost use Rattle.wire.specs.Messages.{replace_order, write_answer, buffer_after};
+ghost use Rattle.inbound.specs.Inbound.{replace_order_of, replace_order_bytes, read_replace_order};
 
 use answers::Answer;
 use wire::frame::{legal_or_zeros, send};
@@ -30,7 +30,7 @@ pub struct ReplaceOrderRead {
 
 pub fn parse_replace_order(s: &[u8]) -> ReplaceOrder
     requires { length s.now ≡ 47 }
-    ensures { result ≡ replaceOrderOf s.now }
+    ensures { result ≡ replace_order_of s.now }
 {
     ReplaceOrder {
         existing: octets::bytes14_at(s, 1),
@@ -45,7 +45,7 @@ pub fn parse_replace_order(s: &[u8]) -> ReplaceOrder
 }
 
 pub fn read_replace_order(s: &[u8]) -> ReplaceOrderRead
-    ensures { result ≡ readReplaceOrder s.now }
+    ensures { result ≡ read_replace_order s.now }
 {
     let answer = judge(s, REPLACE_ORDER);
     let zeros = [0u8; 47];
@@ -54,7 +54,7 @@ pub fn read_replace_order(s: &[u8]) -> ReplaceOrderRead
 }
 
 pub fn write_replace_order(buffer: &mut [u8], m: ReplaceOrder) -> Answer
-    ensures { (result ≡ writeAnswer replaceOrder (replaceOrderBytes m) buffer.old) × (buffer.new ≡ bufferAfter replaceOrder (replaceOrderBytes m) buffer.old) }
+    ensures { (result ≡ write_answer replace_order (replace_order_bytes m) buffer.old) × (buffer.new ≡ buffer_after replace_order (replace_order_bytes m) buffer.old) }
 {
     let existing = m.existing;
     let replacement = m.replacement;

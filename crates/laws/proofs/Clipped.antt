@@ -1,16 +1,16 @@
 -- What bytes keep of an order whatever its numbers are: each number wraps at its width. So an order whose texts have their widths is stored
 -- and judged without a look at the fields that nobody judges. Assumes nothing.
-use Rattle.octets.proofs.Proving.{List, List·getD-append, [], ◌%◌, ◌++◌, ◌+◌, ◌-◌, ◌/◌, ◌<◌, ◌^◌, ◌∙◌, ◌∷◌, ◌≡◌, ◌≤◌, ◌⊎◌, ap, arith, dec_lt, get_or, get_or-append-add, inl, inr, length, lit<, ltb, mod-lt, refl, subst, suc, sym, take, take_all, zero, ℕ}
+use Rattle.octets.proofs.Proving.{List, List·get_d-append, [], ◌%◌, ◌++◌, ◌+◌, ◌-◌, ◌/◌, ◌<◌, ◌^◌, ◌∙◌, ◌∷◌, ◌≡◌, ◌≤◌, ◌⊎◌, ap, arith, dec_lt, get_or, get_or-append-add, inl, inr, length, lit<, ltb, mod-lt, refl, subst, suc, sym, take, take_all, zero, ℕ}
 use Rattle.octets.specs.Choice.{pick}
-use Rattle.octets.specs.Bytes.{digits, number_of, numberFrom}
+use Rattle.octets.specs.Bytes.{digits, number_of, number_from}
 use Rattle.octets.proofs.Laws.{length_digits, number_digits, digits_number, number_bound}
 use Rattle.wire.specs.Letters.{live, dead}
 use Rattle.wire.specs.Shares.{total, removed}
-use Rattle.orders.specs.Limits.{mostShares}
-use Rattle.orders.specs.Counts.{gone, newCounts}
+use Rattle.orders.specs.Limits.{most_shares}
+use Rattle.orders.specs.Counts.{gone, new_counts}
 use Rattle.orders.specs.declared.counts.Counts.{Counts}
-use Rattle.orders.specs.Order.{order_of, orderBytes, no_order, rejectedOrder}
-use Rattle.table.specs.Table.{recordsIn, storeRecord, storeOrder}
+use Rattle.orders.specs.Order.{order_of, order_bytes, no_order, rejected_order}
+use Rattle.table.specs.Table.{records_in, store_record, store_order}
 use Rattle.orders.specs.Whole.{WholeOrder}
 use Rattle.orders.proofs.Standing.{Live, Dead, OrderGood}
 use Rattle.laws.proofs.Types.{Order}
@@ -35,7 +35,7 @@ unfolding digits
 digits-bytes zero v k = lit< tt
 digits-bytes (suc n) v k =
     elim (dec_lt k (length (digits n (v / 256)))) [
-      | yes h ↦ rw (List·getD-append (digits n (v / 256)) ((v % 256) ∷ []) 0 k h) (digits-bytes n (v / 256) k)
+      | yes h ↦ rw (List·get_d-append (digits n (v / 256)) ((v % 256) ∷ []) 0 k h) (digits-bytes n (v / 256) k)
       | no h ↦ behind (digits n (v / 256)) (v % 256) k (mod-lt v {m = 256} (lit< tt)) h
     ]
 
@@ -62,8 +62,8 @@ module _ (n v : ℕ) where
 
 -- ---- an order
 
-unfoldable pub clippedCounts : Counts → Counts
-clippedCounts s =
+unfoldable pub clipped_counts : Counts → Counts
+clipped_counts s =
     record {
       liable = total (clip 4 s.liable.0);
       executed = total (clip 4 s.executed.0);
@@ -78,7 +78,7 @@ clipped o =
       state = clip 1 o.state;
       token = o.token;
       side = clip 1 o.side;
-      shares = clippedCounts o.shares;
+      shares = clipped_counts o.shares;
       flags = clip 1 o.flags;
       details = record {
         kept = record { stock = k.stock; firm = k.firm; capacity = clip 1 k.capacity; cross = clip 1 k.cross };
@@ -96,17 +96,17 @@ clipped o =
     }
 
 -- the bytes are the same
-pub bytes-clipped : (o : Order) → orderBytes (clipped o) ≡ orderBytes o
-unfolding orderBytes clipped clippedCounts
+pub bytes-clipped : (o : Order) → order_bytes (clipped o) ≡ order_bytes o
+unfolding order_bytes clipped clipped_counts
 bytes-clipped o = simp clip-digits
 
-pub stored-clipped : (t : List ℕ) (i : ℕ) (o : Order) → storeOrder t i (clipped o) ≡ storeOrder t i o
-unfolding storeOrder
-stored-clipped t i o = ap (λ (b : List ℕ). pick (ltb i (recordsIn t)) (storeRecord t i b) t) (bytes-clipped o)
+pub stored-clipped : (t : List ℕ) (i : ℕ) (o : Order) → store_order t i (clipped o) ≡ store_order t i o
+unfolding store_order
+stored-clipped t i o = ap (λ (b : List ℕ). pick (ltb i (records_in t)) (store_record t i b) t) (bytes-clipped o)
 
 -- every number fits
 pub whole-clipped : (o : Order) → Shaped o → WholeOrder (clipped o)
-unfolding clipped clippedCounts
+unfolding clipped clipped_counts
 whole-clipped o s =
     record {
       state = clip-small 1 _;
@@ -124,23 +124,23 @@ whole-clipped o s =
     }
 
 -- and the numbers that are judged are what they were
-pub counts-stay : (s : Counts) → s.executed.0 ≤ mostShares → s.matched.0 ≤ mostShares → s.liable.0 ≤ mostShares → clippedCounts s ≡ s
-unfolding clippedCounts
+pub counts-stay : (s : Counts) → s.executed.0 ≤ most_shares → s.matched.0 ≤ most_shares → s.liable.0 ≤ most_shares → clipped_counts s ≡ s
+unfolding clipped_counts
 counts-stay s e m l =
     let a = clip-same 4 s.liable.0 (omega arith) in
     let b = clip-same 4 s.executed.0 (omega arith) in
     let c = clip-same 4 s.matched.0 (omega arith) in
     rw (a, b, c)
 
-rejected-clipped : (token : List ℕ) → clipped (rejectedOrder token) ≡ rejectedOrder token
-unfolding clipped clippedCounts clip rejectedOrder newCounts no_order order_of digits number_of numberFrom
+rejected-clipped : (token : List ℕ) → clipped (rejected_order token) ≡ rejected_order token
+unfolding clipped clipped_counts clip rejected_order new_counts no_order order_of digits number_of number_from
 rejected-clipped token = refl
 
 pub good-clipped : (o : Order) → OrderGood o → OrderGood (clipped o)
 unfolding clipped gone
 good-clipped o g = record { token = g.token; standing = by g.standing }
   where
-    by : Live o ⊎ (Dead o ⊎ (o ≡ rejectedOrder o.token)) → Live (clipped o) ⊎ (Dead (clipped o) ⊎ (clipped o ≡ rejectedOrder o.token))
+    by : Live o ⊎ (Dead o ⊎ (o ≡ rejected_order o.token)) → Live (clipped o) ⊎ (Dead (clipped o) ⊎ (clipped o ≡ rejected_order o.token))
     by (inl l) =
         let c = counts-stay o.shares (omega (arith, l.1, l.2)) (omega (arith, l.1, l.2)) l.2 in
         inl (ap (clip 1) l.0 ∙ clip-same 1 live (lit< tt), rw c l.1, rw c l.2)

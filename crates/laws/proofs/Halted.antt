@@ -1,89 +1,89 @@
 -- What a step does to the list of stocks: what a plan sets is set, and only h's plan sets anything. Assumes nothing.
 use Rattle.octets.proofs.Proving.{Bool, List, [], ◌∙◌, ◌≡◌, ◌≢◌, ◌⊎◌, ap, eqb, eqb-true, false, false≢true, get_or, inl, inr, not, refl, sym, true, ℕ}
 use Rattle.octets.specs.Choice.{pick, among, ◌⇒◌⨾◌}
-use Rattle.answers.specs.Answer.{isDone}
+use Rattle.answers.specs.Answer.{is_done}
 use Rattle.answers.proofs.Laws.{is-done}
-use Rattle.wire.specs.Letters.{stockStates}
-use Rattle.stocks.specs.Standing.{isListed}
-use Rattle.stocks.specs.Stocks.{listGood, standingIn, withState}
+use Rattle.wire.specs.Letters.{stock_states}
+use Rattle.stocks.specs.Standing.{is_listed}
+use Rattle.stocks.specs.Stocks.{list_good, standing_in, with_state}
 use Rattle.stocks.proofs.Keeps.{set_keeps}
 use Rattle.table.specs.Table.{sound}
 use Rattle.table.proofs.Soundness.{of-sound}
 use Rattle.tape.specs.Kinds.{kind_of}
-use Rattle.tape.specs.Entries.{stampOf, stockStateOf}
+use Rattle.tape.specs.Entries.{stamp_of, stock_state_of}
 use Rattle.rules.specs.Plan.{refused, setting}
-use Rattle.market.specs.Halt.{haltRule}
-use Rattle.notices.specs.Notices.{message, noticeBytes}
-use Rattle.host.specs.Step.{Books, World, decideBy, comesTo, setIf, booksAfter, worldAfter, step}
+use Rattle.market.specs.Halt.{halt_rule}
+use Rattle.notices.specs.Notices.{message, notice_bytes}
+use Rattle.host.specs.Step.{Books, World, decide_by, comes_to, set_if, books_after, world_after, step}
 use Rattle.laws.specs.Halts.{Halts, KeepsStocks}
 use Rattle.laws.proofs.Types.{NotLive, Decision, SetsStock, StockState, StockStanding}
-use Rattle.laws.proofs.Comes.{passed, isHalt, state-legal, decided-by, decide-quiet}
+use Rattle.laws.proofs.Comes.{passed, is_halt, state-legal, decided-by, decide-quiet}
 use Rattle.laws.proofs.Steps.{Does, done-does, either, comes}
 
 -- ---- a done h
 
 -- 0 is no state
-state-set : (l : List ℕ) (e : StockState) → among stockStates e.state ≡ true → setIf l e ≡ withState l e.symbol e.state
-unfolding setIf among
+state-set : (l : List ℕ) (e : StockState) → among stock_states e.state ≡ true → set_if l e ≡ with_state l e.symbol e.state
+unfolding set_if among
 state-set l e known = by (eqb e.state 0) refl
   where
-    by : (b : Bool) → eqb e.state 0 ≡ b → pick b l (withState l e.symbol e.state) ≡ withState l e.symbol e.state
-    by true z = absurd (false≢true (sym (ap (among stockStates) (eqb-true e.state 0 z)) ∙ known))
+    by : (b : Bool) → eqb e.state 0 ≡ b → pick b l (with_state l e.symbol e.state) ≡ with_state l e.symbol e.state
+    by true z = absurd (false≢true (sym (ap (among stock_states) (eqb-true e.state 0 z)) ∙ known))
     by false z = refl
 
-module _ (books : Books) (s : List ℕ) (ok : sound books.table ≡ true) (done : isDone (comesTo books s).answer ≡ true) where
+module _ (books : Books) (s : List ℕ) (ok : sound books.table ≡ true) (done : is_done (comes_to books s).answer ≡ true) where
   abbrev l : List ℕ
   l = books.stocks
 
   abbrev e : StockState
-  e = stockStateOf s
+  e = stock_state_of s
 
   -- another kind sets nothing
-  pub quiet : kind_of s ≢ SetsStock → setIf l (comesTo books s).plan.stock ≡ l
-  unfolding setIf
+  pub quiet : kind_of s ≢ SetsStock → set_if l (comes_to books s).plan.stock ≡ l
+  unfolding set_if
   quiet other =
       let passed = passed books s done in
-      ap (setIf l) (ap (λ (d : Decision). d.plan.stock) passed.is ∙ decide-quiet books s (of-sound books.table ok) passed.legal other)
+      ap (set_if l) (ap (λ (d : Decision). d.plan.stock) passed.is ∙ decide-quiet books s (of-sound books.table ok) passed.legal other)
 
   -- what is done is the setting, of a listed symbol
   record Set : Type 0 where
-    listed : isListed (standingIn l e.symbol) ≡ true
-    plans : comesTo books s ≡ setting e
+    listed : is_listed (standing_in l e.symbol) ≡ true
+    plans : comes_to books s ≡ setting e
 
-  set_if : (stock : StockStanding) → isDone (haltRule stock e).answer ≡ true → (isListed stock ≡ true) × (haltRule stock e ≡ setting e)
-  unfolding haltRule refused isDone
-  set_if stock d = by (isListed stock) refl d
+  set_if : (stock : StockStanding) → is_done (halt_rule stock e).answer ≡ true → (is_listed stock ≡ true) × (halt_rule stock e ≡ setting e)
+  unfolding halt_rule refused is_done
+  set_if stock d = by (is_listed stock) refl d
     where
-      by : (b : Bool) → isListed stock ≡ b → isDone (not b ⇒ refused NotLive ⨾ setting e).answer ≡ true
-          → (isListed stock ≡ true) × ((not b ⇒ refused NotLive ⨾ setting e) ≡ setting e)
+      by : (b : Bool) → is_listed stock ≡ b → is_done (not b ⇒ refused NotLive ⨾ setting e).answer ≡ true
+          → (is_listed stock ≡ true) × ((not b ⇒ refused NotLive ⨾ setting e) ≡ setting e)
       by true q d = (q, refl)
       by false q d = absurd (false≢true d)
 
   sets : kind_of s ≡ SetsStock → Set
-  unfolding decideBy
+  unfolding decide_by
   sets halt =
       let passed = passed books s done in
       let is = passed.is ∙ decided-by books s (of-sound books.table ok) passed.legal SetsStock halt in
-      let r = set_if (standingIn l e.symbol) (ap (λ (d : Decision). isDone d.answer) (sym is) ∙ done) in
+      let r = set_if (standing_in l e.symbol) (ap (λ (d : Decision). is_done d.answer) (sym is) ∙ done) in
       record { listed = r.0; plans = is ∙ r.1 }
 
-  set_to : kind_of s ≡ SetsStock → setIf l (comesTo books s).plan.stock ≡ withState l e.symbol e.state
+  set_to : kind_of s ≡ SetsStock → set_if l (comes_to books s).plan.stock ≡ with_state l e.symbol e.state
   unfolding setting
   set_to halt =
-      ap (λ (d : Decision). setIf l d.plan.stock) (sets halt).plans
+      ap (λ (d : Decision). set_if l d.plan.stock) (sets halt).plans
       ∙ state-set l e (state-legal s (passed books s done).legal halt)
 
-  silent : kind_of s ≡ SetsStock → message (stampOf s) (comesTo books s).plan ≡ []
-  unfolding message noticeBytes setting
-  silent halt = ap (λ (d : Decision). message (stampOf s) d.plan) (sets halt).plans
+  silent : kind_of s ≡ SetsStock → message (stamp_of s) (comes_to books s).plan ≡ []
+  unfolding message notice_bytes setting
+  silent halt = ap (λ (d : Decision). message (stamp_of s) d.plan) (sets halt).plans
 
-  pub stays-good : listGood l ≡ true → listGood (setIf l (comesTo books s).plan.stock) ≡ true
-  stays-good good = by (isHalt (kind_of s))
+  pub stays-good : list_good l ≡ true → list_good (set_if l (comes_to books s).plan.stock) ≡ true
+  stays-good good = by (is_halt (kind_of s))
     where
-      by : (kind_of s ≡ SetsStock) ⊎ (kind_of s ≢ SetsStock) → listGood (setIf l (comesTo books s).plan.stock) ≡ true
+      by : (kind_of s ≡ SetsStock) ⊎ (kind_of s ≢ SetsStock) → list_good (set_if l (comes_to books s).plan.stock) ≡ true
       by (inl halt) =
-          ap listGood (set_to halt) ∙ (set_keeps l e.symbol e.state good (state-legal s (passed books s done).legal halt)).good
-      by (inr other) = ap listGood (quiet other) ∙ good
+          ap list_good (set_to halt) ∙ (set_keeps l e.symbol e.state good (state-legal s (passed books s done).legal halt)).good
+      by (inr other) = ap list_good (quiet other) ∙ good
 
 -- ---- any step
 
@@ -95,8 +95,8 @@ module _ (w : World) (s : List ℕ) where
   after = (step w s).world.books.stocks
 
   -- what is done sets what its plan sets
-  set-list : Does w s (step w s) → after ≡ setIf before (comes w s).plan.stock
-  unfolding worldAfter booksAfter
+  set-list : Does w s (step w s) → after ≡ set_if before (comes w s).plan.stock
+  unfolding world_after books_after
   set-list d = ap (λ (x : World). x.books.stocks) d.world
 
   untouched : (step w s).world ≡ w → after ≡ before
@@ -107,7 +107,7 @@ module _ (w : World) (s : List ℕ) where
       let ok = d.ready.table in
       let to = set-list d ∙ set_to w.books s ok d.comes-done halt in
       let known = state-legal s (passed w.books s d.comes-done).legal halt in
-      let kept = set_keeps before (stockStateOf s).symbol (stockStateOf s).state d.ready.stocks known in
+      let kept = set_keeps before (stock_state_of s).symbol (stock_state_of s).state d.ready.stocks known in
       record {
         listed = (sets w.books s ok d.comes-done halt).listed;
         set = to;
@@ -116,12 +116,12 @@ module _ (w : World) (s : List ℕ) where
       }
 
   pub keeps-stocks : KeepsStocks w s
-  unfolding isDone
+  unfolding is_done
   keeps-stocks =
       record {
         others = λ other. either w s untouched λ _ d. set-list d ∙ quiet w.books s d.ready.table d.comes-done other;
         only-done = λ refused. either w s untouched λ e _. absurd (refused (is-done (step w s).answer e));
-        done = λ halt e. halts halt (done-does w s (ap isDone e));
-        good = λ right. either w s (λ e. ap listGood (untouched e) ∙ right)
-            λ _ d. ap listGood (set-list d) ∙ stays-good w.books s d.ready.table d.comes-done right;
+        done = λ halt e. halts halt (done-does w s (ap is_done e));
+        good = λ right. either w s (λ e. ap list_good (untouched e) ∙ right)
+            λ _ d. ap list_good (set-list d) ∙ stays-good w.books s d.ready.table d.comes-done right;
       }

@@ -2,18 +2,18 @@
 -- Assumes nothing.
 use Rattle.octets.proofs.Proving.{Bool, List, ◌&&◌, ◌+◌, ◌-◌, ◌≡◌, ◌≤◌, arith, eqb, false, inl, length, not, refl, true, ℕ}
 use Rattle.octets.specs.Bytes.{zeros}
-use Rattle.answers.specs.Answer.{answerNumber}
+use Rattle.answers.specs.Answer.{answer_number}
 use Rattle.wire.specs.Letters.{dead}
-use Rattle.wire.specs.Limits.{tokenSize}
-use Rattle.header.specs.Limits.{dayClosed}
-use Rattle.orders.specs.Limits.{mostShares}
-use Rattle.orders.specs.Counts.{gone, openShares, cut, withLiable}
-use Rattle.orders.specs.Order.{isLive, isUsed, no_order, rejectedOrder, deadIfSpent, with_flags, withSide, killed}
+use Rattle.wire.specs.Limits.{token_size}
+use Rattle.header.specs.Limits.{day_closed}
+use Rattle.orders.specs.Limits.{most_shares}
+use Rattle.orders.specs.Counts.{gone, open_shares, cut, with_liable}
+use Rattle.orders.specs.Order.{is_live, is_used, no_order, rejected_order, dead_if_spent, with_flags, with_side, killed}
 use Rattle.orders.specs.declared.counts.Counts.{Counts}
 use Rattle.orders.proofs.Standing.{Live}
-use Rattle.rules.specs.Plan.{noStock, refused, changing, renumbering, accepting, replacing as replacingBy, rejecting, beginning, blocking, setting}
-use Rattle.laws.specs.Blocked.{isBlocked}
-use Rattle.laws.specs.Cancels.{executionsPlusOpen}
+use Rattle.rules.specs.Plan.{no_stock, refused, changing, renumbering, accepting, replacing as replacing_by, rejecting, beginning, blocking, setting}
+use Rattle.laws.specs.Blocked.{is_blocked}
+use Rattle.laws.specs.Cancels.{executions_plus_open}
 use Rattle.laws.proofs.Types.{Answer, Order, Plan, StockState, Decision, Begins, Nothing, Day, Block, Notice, Silent, SystemEvent, Accepted, Replaced, Canceled, AiqCancelled, Executed, Rejected, CancelPending, CancelReject, PriorityUpdate, Modified}
 use Rattle.laws.proofs.Standing.{Standing, live_state, counted}
 
@@ -21,36 +21,36 @@ use Rattle.laws.proofs.Standing.{Standing, live_state, counted}
 
 -- the fields that are texts have their widths
 pub record Shaped (o : Order) : Type 0 where
-  pub token : length o.token ≡ tokenSize
+  pub token : length o.token ≡ token_size
   pub stock : length o.details.kept.stock ≡ 8
   pub firm : length o.details.kept.firm ≡ 4
-  pub previous : length o.details.previous ≡ tokenSize
+  pub previous : length o.details.previous ≡ token_size
 
 -- what an Executed tells: executed grows by this, and by nothing else
-abbrev pub toldExecuted : Notice → ℕ
-toldExecuted (Executed e) = e.shares.0
-toldExecuted Silent = 0
-toldExecuted (SystemEvent event) = 0
-toldExecuted Accepted = 0
-toldExecuted Replaced = 0
-toldExecuted (Canceled decrement reason) = 0
-toldExecuted (AiqCancelled e) = 0
-toldExecuted (Rejected reason) = 0
-toldExecuted CancelPending = 0
-toldExecuted CancelReject = 0
-toldExecuted PriorityUpdate = 0
-toldExecuted Modified = 0
+abbrev pub told_executed : Notice → ℕ
+told_executed (Executed e) = e.shares.0
+told_executed Silent = 0
+told_executed (SystemEvent event) = 0
+told_executed Accepted = 0
+told_executed Replaced = 0
+told_executed (Canceled decrement reason) = 0
+told_executed (AiqCancelled e) = 0
+told_executed (Rejected reason) = 0
+told_executed CancelPending = 0
+told_executed CancelReject = 0
+told_executed PriorityUpdate = 0
+told_executed Modified = 0
 
 -- `after` is what becomes of the order `named`, which was live: no rule changes another
 pub record Changed (named : Order) (notice : Notice) (after : Order) : Type 0 where
-  pub alive : isLive named ≡ true
+  pub alive : is_live named ≡ true
   pub standing : Standing after
   pub shaped : Shaped after
   pub token : after.token ≡ named.token
   pub previous : after.details.previous ≡ named.details.previous
-  pub executed : after.shares.executed.0 ≡ named.shares.executed.0 + toldExecuted notice
+  pub executed : after.shares.executed.0 ≡ named.shares.executed.0 + told_executed notice
   -- executions plus open never rise
-  pub limit : (executionsPlusOpen after.shares).0 ≤ (executionsPlusOpen named.shares).0
+  pub limit : (executions_plus_open after.shares).0 ≤ (executions_plus_open named.shares).0
 
 -- a live order under the token t, which carries over these executed shares from the order of the token before it
 pub record Born (t : List ℕ) (executed : ℕ) (before : List ℕ) (new : Order) : Type 0 where
@@ -64,30 +64,30 @@ pub record Born (t : List ℕ) (executed : ℕ) (before : List ℕ) (new : Order
 
 pub data Subject : Type 0 where
   of_none : Subject
-  ofNamed : Subject
-  ofNew : Subject
+  of_named : Subject
+  of_new : Subject
   -- the new one, and the one before it
   of_both : Subject
 
 abbrev pub subject : Notice → Subject
 subject Silent = of_none
 subject (SystemEvent event) = of_none
-subject Accepted = ofNew
+subject Accepted = of_new
 subject Replaced = of_both
-subject (Canceled decrement reason) = ofNamed
-subject (AiqCancelled e) = ofNamed
-subject (Executed e) = ofNamed
-subject (Rejected reason) = ofNew
-subject CancelPending = ofNamed
-subject CancelReject = ofNamed
-subject PriorityUpdate = ofNamed
-subject Modified = ofNamed
+subject (Canceled decrement reason) = of_named
+subject (AiqCancelled e) = of_named
+subject (Executed e) = of_named
+subject (Rejected reason) = of_new
+subject CancelPending = of_named
+subject CancelReject = of_named
+subject PriorityUpdate = of_named
+subject Modified = of_named
 
 -- of no new order
 abbrev pub Older : Subject → Type 0
 Older of_none = Unit {0}
-Older ofNamed = Unit {0}
-Older ofNew = ⊥
+Older of_named = Unit {0}
+Older of_new = ⊥
 Older of_both = ⊥
 
 -- ---- the shapes
@@ -96,40 +96,40 @@ Older of_both = ⊥
 pub data Shape (named found : Order) (token : List ℕ) (p : Plan) : Type 0 where
   nobody : p.changed ≡ no_order → p.added ≡ no_order → subject p.notice ≡ of_none → Shape named found token p
   changes : Changed named p.notice p.changed → p.added ≡ no_order → Older (subject p.notice) → Shape named found token p
-  accepts : isUsed found ≡ false → p.changed ≡ no_order → Born token 0 (zeros tokenSize) p.added → p.notice ≡ Accepted
+  accepts : is_used found ≡ false → p.changed ≡ no_order → Born token 0 (zeros token_size) p.added → p.notice ≡ Accepted
       → Shape named found token p
-  rejects : isUsed found ≡ false → p.changed ≡ no_order → p.added ≡ rejectedOrder token → (reason : ℕ) → p.notice ≡ Rejected reason
+  rejects : is_used found ≡ false → p.changed ≡ no_order → p.added ≡ rejected_order token → (reason : ℕ) → p.notice ≡ Rejected reason
       → Shape named found token p
-  replaces : isUsed found ≡ false → Changed named Replaced p.changed → p.changed.state ≡ dead
+  replaces : is_used found ≡ false → Changed named Replaced p.changed → p.changed.state ≡ dead
       → Born token named.shares.executed.0 named.token p.added → p.notice ≡ Replaced → Shape named found token p
 
 -- the day that begins is one of the three
 abbrev pub Begun : Begins → Type 0
 Begun Nothing = Unit {0}
-Begun (Day day) = day ≤ dayClosed
+Begun (Day day) = day ≤ day_closed
 Begun (Block place on) = Unit {0}
 
 -- the answers of the rules' own: not 3, which judging the entry gives, and not 9: that is asked of the ring alone, which the rules never see
-abbrev pub ofRules : Answer → Bool
-ofRules a = not (eqb (answerNumber a) 3) && not (isBlocked a)
+abbrev pub of_rules : Answer → Bool
+of_rules a = not (eqb (answer_number a) 3) && not (is_blocked a)
 
 -- what every decision of the rules keeps
 pub record Orderly (named found : Order) (token : List ℕ) (d : Decision) : Type 0 where
   pub shape : Shape named found token d.plan
   pub begins : Begun d.plan.begins
-  pub own : ofRules d.answer ≡ true
+  pub own : of_rules d.answer ≡ true
 
 -- and every one but h's: no state of a stock is set
 pub record Keeps (named found : Order) (token : List ℕ) (d : Decision) : Type 0 where
   pub orderly : Orderly named found token d
-  pub quiet : d.plan.stock ≡ noStock
+  pub quiet : d.plan.stock ≡ no_stock
 
 module _ {named found : Order} {token : List ℕ} where
-  pub refused-keeps : (answer : Answer) → ofRules answer ≡ true → Keeps named found token (refused answer)
+  pub refused-keeps : (answer : Answer) → of_rules answer ≡ true → Keeps named found token (refused answer)
   unfolding refused
   refused-keeps answer own = record { orderly = record { shape = nobody refl refl refl; begins = tt; own = own }; quiet = refl }
 
-  pub beginning-keeps : (day event : ℕ) → day ≤ dayClosed → Keeps named found token (beginning day event)
+  pub beginning-keeps : (day event : ℕ) → day ≤ day_closed → Keeps named found token (beginning day event)
   unfolding beginning
   beginning-keeps day event known = record { orderly = record { shape = nobody refl refl refl; begins = known; own = refl }; quiet = refl }
 
@@ -145,17 +145,17 @@ module _ {named found : Order} {token : List ℕ} where
   unfolding renumbering
   renumbering-keeps h = record { orderly = record { shape = changes h refl tt; begins = tt; own = refl }; quiet = refl }
 
-  pub accepting-keeps : {new : Order} → isUsed found ≡ false → Born token 0 (zeros tokenSize) new → Keeps named found token (accepting new)
+  pub accepting-keeps : {new : Order} → is_used found ≡ false → Born token 0 (zeros token_size) new → Keeps named found token (accepting new)
   unfolding accepting
   accepting-keeps free h = record { orderly = record { shape = accepts free refl h refl; begins = tt; own = refl }; quiet = refl }
 
-  pub rejecting-keeps : isUsed found ≡ false → (reason : ℕ) → Keeps named found token (rejecting token reason)
+  pub rejecting-keeps : is_used found ≡ false → (reason : ℕ) → Keeps named found token (rejecting token reason)
   unfolding rejecting
   rejecting-keeps free reason = record { orderly = record { shape = rejects free refl refl reason refl; begins = tt; own = refl }; quiet = refl }
 
-  pub replacing-keeps : {old new : Order} → isUsed found ≡ false → Changed named Replaced old → old.state ≡ dead
-      → Born token named.shares.executed.0 named.token new → Keeps named found token (replacingBy old new)
-  unfolding replacingBy
+  pub replacing-keeps : {old new : Order} → is_used found ≡ false → Changed named Replaced old → old.state ≡ dead
+      → Born token named.shares.executed.0 named.token new → Keeps named found token (replacing_by old new)
+  unfolding replacing_by
   replacing-keeps free h end born = record { orderly = record { shape = replaces free h end born refl; begins = tt; own = refl }; quiet = refl }
 
   pub setting-orderly : (e : StockState) → Orderly named found token (setting e)
@@ -170,7 +170,7 @@ pub data Change (named : Order) (notice : Notice) (after : Order) : Type 0 where
 
 pub data Addition (token : List ℕ) (named new : Order) : Type 0 where
   nothing : new ≡ no_order → Addition token named new
-  rejected : new ≡ rejectedOrder token → Addition token named new
+  rejected : new ≡ rejected_order token → Addition token named new
   born : (executed : ℕ) (before : List ℕ) → Born token executed before new → Addition token named new
 
 module _ {named found : Order} {token : List ℕ} {p : Plan} where
@@ -184,15 +184,15 @@ module _ {named found : Order} {token : List ℕ} {p : Plan} where
   pub addition-of : Shape named found token p → Addition token named p.added
   addition-of (nobody c a n) = nothing a
   addition-of (changes c a n) = nothing a
-  addition-of (accepts f c a n) = born 0 (zeros tokenSize) a
+  addition-of (accepts f c a n) = born 0 (zeros token_size) a
   addition-of (rejects f c a r n) = rejected a
   addition-of (replaces f c d a n) = born named.shares.executed.0 named.token a
 
 -- ---- the changes of a live order
 
-module _ (o : Order) (alive : isLive o ≡ true) (lives : Live o) (shaped : Shaped o) where
+module _ (o : Order) (alive : is_live o ≡ true) (lives : Live o) (shaped : Shaped o) where
   -- what leaves its counts alone
-  pub uncounted : (flags : ℕ) {notice : Notice} → toldExecuted notice ≡ 0 → Changed o notice (with_flags o flags)
+  pub uncounted : (flags : ℕ) {notice : Notice} → told_executed notice ≡ 0 → Changed o notice (with_flags o flags)
   unfolding with_flags
   uncounted flags quiet =
       record {
@@ -206,14 +206,14 @@ module _ (o : Order) (alive : isLive o ≡ true) (lives : Live o) (shaped : Shap
       }
 
   -- what moves them
-  pub recounted : (side flags : ℕ) (s : Counts) (notice : Notice) → (gone s).0 ≤ s.liable.0 → s.liable.0 ≤ mostShares
-      → s.executed.0 ≡ o.shares.executed.0 + toldExecuted notice → (executionsPlusOpen s).0 ≤ (executionsPlusOpen o.shares).0
-      → Changed o notice (deadIfSpent (with_flags (withSide o side) flags) s)
-  unfolding deadIfSpent with_flags withSide
+  pub recounted : (side flags : ℕ) (s : Counts) (notice : Notice) → (gone s).0 ≤ s.liable.0 → s.liable.0 ≤ most_shares
+      → s.executed.0 ≡ o.shares.executed.0 + told_executed notice → (executions_plus_open s).0 ≤ (executions_plus_open o.shares).0
+      → Changed o notice (dead_if_spent (with_flags (with_side o side) flags) s)
+  unfolding dead_if_spent with_flags with_side
   recounted side flags s notice within most told limit =
       record {
         alive = alive;
-        standing = counted (with_flags (withSide o side) flags) s (live_state o alive) within most;
+        standing = counted (with_flags (with_side o side) flags) s (live_state o alive) within most;
         shaped = record { token = shaped.token; stock = shaped.stock; firm = shaped.firm; previous = shaped.previous };
         token = refl;
         previous = refl;
@@ -221,13 +221,13 @@ module _ (o : Order) (alive : isLive o ≡ true) (lives : Live o) (shaped : Shap
         limit = limit;
       }
 
-  pub ended : (flags : ℕ) (notice : Notice) → toldExecuted notice ≡ 0 → Changed o notice (killed (with_flags o flags))
-  unfolding killed cut withLiable openShares gone with_flags withSide executionsPlusOpen
+  pub ended : (flags : ℕ) (notice : Notice) → told_executed notice ≡ 0 → Changed o notice (killed (with_flags o flags))
+  unfolding killed cut with_liable open_shares gone with_flags with_side executions_plus_open
   ended flags notice quiet =
       recounted o.side flags _ notice (omega (arith, lives.1)) (omega (arith, lives.2)) (omega (arith, quiet)) (omega (arith, lives.1))
 
   pub ended-dead : (flags : ℕ) → (killed (with_flags o flags)).state ≡ dead
-  unfolding killed deadIfSpent cut withLiable openShares gone with_flags
+  unfolding killed dead_if_spent cut with_liable open_shares gone with_flags
   ended-dead flags =
       let z : (o.shares.liable.0 - (o.shares.liable.0 - (o.shares.executed.0 + o.shares.matched.0))) - (o.shares.executed.0 + o.shares.matched.0) ≡ 0 =
       omega (arith, lives.1) in

@@ -1,26 +1,26 @@
 -- A step that is done keeps a sound table sound: the named order's record, the record behind the used ones, and the header are each written
 -- with something good, and nothing else is touched. Assumes nothing.
 use Rattle.octets.proofs.Proving.{Bool, List, ◌&&◌, ◌+◌, ◌<◌, ◌^◌, ◌∙◌, ◌≡◌, ◌≢◌, ◌≤◌, ◌⊎◌, ap, arith, eqb, eqb-false, false, false≢true, inl, inr, leb, leb-false, length, refl, subst, sym, true, ℕ}
-use Rattle.answers.specs.Answer.{isDone}
+use Rattle.answers.specs.Answer.{is_done}
 use Rattle.wire.specs.Letters.{live, dead}
 use Rattle.wire.specs.Shares.{total}
-use Rattle.wire.proofs.NoneBad.{legalToken}
-use Rattle.header.specs.Limits.{endOfReferences, dayClosed}
+use Rattle.wire.proofs.NoneBad.{legal_token}
+use Rattle.header.specs.Limits.{end_of_references, day_closed}
 use Rattle.header.specs.Whole.{WholeHeader}
 use Rattle.header.proofs.Holds.{HeaderGood}
 use Rattle.header.proofs.Blocked.{blocked-lt, in-byte}
-use Rattle.orders.specs.Counts.{openShares}
-use Rattle.orders.specs.Order.{order_of, rejectedOrder, isUsed}
-use Rattle.orders.specs.Sound.{recordSound}
+use Rattle.orders.specs.Counts.{open_shares}
+use Rattle.orders.specs.Order.{order_of, rejected_order, is_used}
+use Rattle.orders.specs.Sound.{record_sound}
 use Rattle.orders.proofs.Standing.{Live, Dead, Rejected, OrderGood, RecordGood, to-record}
-use Rattle.table.specs.Table.{HasRecord, recordsIn, recordBytes, header, order_at, sound, storeOrder}
-use Rattle.table.specs.Limits.{mostRecords}
+use Rattle.table.specs.Table.{HasRecord, records_in, record_bytes, header, order_at, sound, store_order}
+use Rattle.table.specs.Limits.{most_records}
 use Rattle.table.proofs.Soundness.{Sound, same_size, of-sound}
 use Rattle.table.proofs.Stored.{same-records, order-length, order-header}
 use Rattle.table.proofs.Agreeing.{Agree, Grows}
 use Rattle.table.proofs.Keeps.{records-after, agrees_after, order-keeps, header-keeps}
-use Rattle.tape.specs.Entries.{stampOf}
-use Rattle.host.specs.Step.{Books, oneIf, namedPlace, storeIf, dayAfter, blockedAfter, headerAfter, committed, noRecordFree, noReferenceLeft, decide, comesTo}
+use Rattle.tape.specs.Entries.{stamp_of}
+use Rattle.host.specs.Step.{Books, one_if, named_place, store_if, day_after, blocked_after, header_after, committed, no_record_free, no_reference_left, decide, comes_to}
 use Rattle.laws.specs.Records.{Paper, EveryRecord}
 use Rattle.laws.proofs.Types.{Decision, Plan, Order, Header, Begins, Nothing, Day, Block}
 use Rattle.laws.proofs.Standing.{Standing}
@@ -37,39 +37,39 @@ pub record Fit (o : Order) : Type 0 where
   pub good : OrderGood o
 
 module _ (t : List ℕ) (i : ℕ) (o : Order) (there : HasRecord t i) (fit : Fit o) where
-  pub stored-length : length (storeOrder t i o) ≡ length t
+  pub stored-length : length (store_order t i o) ≡ length t
   stored-length = ap length (sym (stored-clipped t i o)) ∙ order-length t i (clipped o) there (whole-clipped o fit.shaped)
 
-  pub stored-header : header (storeOrder t i o) ≡ header t
+  pub stored-header : header (store_order t i o) ≡ header t
   stored-header = ap header (sym (stored-clipped t i o)) ∙ order-header t i (clipped o) there (whole-clipped o fit.shaped)
 
-  pub stored-sound : i < (header t).used → sound t ≡ true → sound (storeOrder t i o) ≡ true
+  pub stored-sound : i < (header t).used → sound t ≡ true → sound (store_order t i o) ≡ true
   stored-sound used ok =
       ap sound (sym (stored-clipped t i o)) ∙ order-keeps t i (clipped o) there (whole-clipped o fit.shaped) (good-clipped o fit.good) used ok
 
-  pub stored-records : (n : ℕ) → n ≤ recordsIn t → ((j : ℕ) → j < n → j ≢ i → recordSound (recordBytes t j) ≡ true)
-      → (j : ℕ) → j < n → recordSound (recordBytes (storeOrder t i o) j) ≡ true
+  pub stored-records : (n : ℕ) → n ≤ records_in t → ((j : ℕ) → j < n → j ≢ i → record_sound (record_bytes t j) ≡ true)
+      → (j : ℕ) → j < n → record_sound (record_bytes (store_order t i o) j) ≡ true
   stored-records n within others j l =
-      ap (λ (u : List ℕ). recordSound (recordBytes u j)) (sym (stored-clipped t i o))
+      ap (λ (u : List ℕ). record_sound (record_bytes u j)) (sym (stored-clipped t i o))
       ∙ records-after t i (clipped o) there (whole-clipped o fit.shaped) (good-clipped o fit.good) n within others j l
 
-  pub stored-agrees : (n m : ℕ) → Grows n i m → n ≤ recordsIn t → m ≤ mostRecords → ((j : ℕ) → j < m → recordSound (recordBytes (storeOrder t i o) j) ≡ true)
-      → Agree t n → Agree (storeOrder t i o) m
+  pub stored-agrees : (n m : ℕ) → Grows n i m → n ≤ records_in t → m ≤ most_records → ((j : ℕ) → j < m → record_sound (record_bytes (store_order t i o) j) ≡ true)
+      → Agree t n → Agree (store_order t i o) m
   stored-agrees n m grows within most sounds a =
       subst (λ (u : List ℕ). Agree u m) (stored-clipped t i o)
       (agrees_after t i (clipped o) there (whole-clipped o fit.shaped) (good-clipped o fit.good) n m grows within most
-      (λ j l. ap (λ (u : List ℕ). recordSound (recordBytes u j)) (stored-clipped t i o) ∙ sounds j l) a)
+      (λ j l. ap (λ (u : List ℕ). record_sound (record_bytes u j)) (stored-clipped t i o) ∙ sounds j l) a)
 
 -- ---- the orders of a plan
 
-standing-good : (o : Order) → Standing o → (legal : legalToken o.token ≡ true) → OrderGood o
+standing-good : (o : Order) → Standing o → (legal : legal_token o.token ≡ true) → OrderGood o
 standing-good o (inl l) legal = record { token = legal; standing = inl l }
 standing-good o (inr d) legal = record { token = legal; standing = inr (inl d) }
 
 -- what is added where anything is
-pub added-fit : {token : List ℕ} {o : Order} (new : Order) → NewToken token → Addition token o new → isUsed new ≡ true → Fit new
-unfolding rejectedOrder
-added-fit new n (nothing e) u = absurd (false≢true (sym none-unused ∙ ap isUsed (sym e) ∙ u))
+pub added-fit : {token : List ℕ} {o : Order} (new : Order) → NewToken token → Addition token o new → is_used new ≡ true → Fit new
+unfolding rejected_order
+added-fit new n (nothing e) u = absurd (false≢true (sym none-unused ∙ ap is_used (sym e) ∙ u))
 added-fit new n (rejected e) u =
     subst Fit (sym e)
     (record {
@@ -77,11 +77,11 @@ added-fit new n (rejected e) u =
       good = record { token = n.legal; standing = inr (inr refl) };
     })
 added-fit new n (born x before b) u =
-    record { shaped = b.shaped; good = standing-good new (inl b.alive) (ap legalToken b.token ∙ n.legal) }
+    record { shaped = b.shaped; good = standing-good new (inl b.alive) (ap legal_token b.token ∙ n.legal) }
 
 -- ---- a plan written down
 
-module _ (books : Books) (s : List ℕ) (ok : sound books.table ≡ true) (done : isDone (comesTo books s).answer ≡ true) where
+module _ (books : Books) (s : List ℕ) (ok : sound books.table ≡ true) (done : is_done (comes_to books s).answer ≡ true) where
   abbrev t : List ℕ
   t = books.table
 
@@ -95,7 +95,7 @@ module _ (books : Books) (s : List ℕ) (ok : sound books.table ≡ true) (done 
   p = (decide books s).plan
 
   abbrev pub place : ℕ
-  place = namedPlace t s
+  place = named_place t s
 
   abbrev pub o : Order
   o = named books s S P.legal
@@ -103,12 +103,12 @@ module _ (books : Books) (s : List ℕ) (ok : sound books.table ≡ true) (done 
   pub K : Kept t o (decide books s)
   K = decide-keeps books s S P.legal
 
-  pub changed-fit : Change o p.notice p.changed → isUsed p.changed ≡ true → Fit p.changed × HasRecord t place × (place < (header t).used)
-  changed-fit (unchanged e) u = absurd (false≢true (sym none-unused ∙ ap isUsed (sym e) ∙ u))
+  pub changed-fit : Change o p.notice p.changed → is_used p.changed ≡ true → Fit p.changed × HasRecord t place × (place < (header t).used)
+  changed-fit (unchanged e) u = absurd (false≢true (sym none-unused ∙ ap is_used (sym e) ∙ u))
   changed-fit (changed c) u = (
     record {
       shaped = c.shaped;
-      good = standing-good p.changed c.standing (ap legalToken c.token ∙ token-legal t S place c.alive);
+      good = standing-good p.changed c.standing (ap legal_token c.token ∙ token-legal t S place c.alive);
     },
     used-there t S place (live-there t place c.alive),
     omega (arith, live-there t place c.alive, S.used),
@@ -116,7 +116,7 @@ module _ (books : Books) (s : List ℕ) (ok : sound books.table ≡ true) (done 
 
   -- after the named order
   abbrev pub one : List ℕ
-  one = storeIf t place p.changed
+  one = store_if t place p.changed
 
   pub record Kept₁ : Type 0 where
     pub long : length one ≡ length t
@@ -124,10 +124,10 @@ module _ (books : Books) (s : List ℕ) (ok : sound books.table ≡ true) (done 
     pub good : sound one ≡ true
 
   pub kept₁ : Kept₁
-  unfolding storeIf
-  kept₁ = by (isUsed p.changed) refl
+  unfolding store_if
+  kept₁ = by (is_used p.changed) refl
     where
-      by : (b : Bool) → isUsed p.changed ≡ b → Kept₁
+      by : (b : Bool) → is_used p.changed ≡ b → Kept₁
       by true u =
           let f = changed-fit (change-of K.1.1.shape) u in
           record {
@@ -141,47 +141,47 @@ module _ (books : Books) (s : List ℕ) (ok : sound books.table ≡ true) (done 
   h = header t
 
   -- a record is free where one is needed
-  pub free-there : isUsed p.added ≡ true → h.used < recordsIn t
-  unfolding noRecordFree
-  free-there u = leb-false _ _ (ap (λ (b : Bool). b && leb (recordsIn t) h.used) (sym u) ∙ P.record-left)
+  pub free-there : is_used p.added ≡ true → h.used < records_in t
+  unfolding no_record_free
+  free-there u = leb-false _ _ (ap (λ (b : Bool). b && leb (records_in t) h.used) (sym u) ∙ P.record-left)
 
   -- and a reference
-  reference-there : p.numbered ≡ true → h.reference < endOfReferences
-  unfolding noReferenceLeft
+  reference-there : p.numbered ≡ true → h.reference < end_of_references
+  unfolding no_reference_left
   reference-there n =
-      let other : eqb h.reference endOfReferences ≡ false = ap (λ (b : Bool). b && eqb h.reference endOfReferences) (sym n) ∙ P.reference-left in
-      let differ = eqb-false h.reference endOfReferences other in
+      let other : eqb h.reference end_of_references ≡ false = ap (λ (b : Bool). b && eqb h.reference end_of_references) (sym n) ∙ P.reference-left in
+      let differ = eqb-false h.reference end_of_references other in
       omega (arith, differ, S.head.highest-reference)
 
   -- after the added one
   abbrev pub two : List ℕ
-  two = storeIf one h.used p.added
+  two = store_if one h.used p.added
 
   pub record Kept₂ : Type 0 where
     pub long : length two ≡ length t
-    pub records : (j : ℕ) → j < h.used + oneIf (isUsed p.added) → recordSound (recordBytes two j) ≡ true
-    pub agrees : Agree two (h.used + oneIf (isUsed p.added))
+    pub records : (j : ℕ) → j < h.used + one_if (is_used p.added) → record_sound (record_bytes two j) ≡ true
+    pub agrees : Agree two (h.used + one_if (is_used p.added))
 
-  pub there-in-one : isUsed p.added ≡ true → HasRecord one h.used
+  pub there-in-one : is_used p.added ≡ true → HasRecord one h.used
   there-in-one u = subst (λ (n : ℕ). h.used < n) (sym (same-records t one kept₁.long)) (free-there u)
 
   pub kept₂ : Kept₂
-  unfolding storeIf
-  kept₂ = by (isUsed p.added) refl
+  unfolding store_if
+  kept₂ = by (is_used p.added) refl
     where
-      one-records : (j : ℕ) → j < h.used → recordSound (recordBytes one j) ≡ true
+      one-records : (j : ℕ) → j < h.used → record_sound (record_bytes one j) ≡ true
       one-records j l =
-          to-record (recordBytes one j) ((of-sound one kept₁.good).records j (subst (λ (q : Header). j < q.used) (sym kept₁.head) l))
+          to-record (record_bytes one j) ((of-sound one kept₁.good).records j (subst (λ (q : Header). j < q.used) (sym kept₁.head) l))
 
       one-agrees : Agree one h.used
       one-agrees = subst (λ (q : Header). Agree one q.used) kept₁.head (of-sound one kept₁.good).kept
 
-      by : (b : Bool) → isUsed p.added ≡ b → Kept₂
+      by : (b : Bool) → is_used p.added ≡ b → Kept₂
       by true u =
           let f = added-fit p.added K.1.0 (addition-of K.1.1.shape) u in
           let there = there-in-one u in
           let records = stored-records one h.used p.added there f (h.used + 1) (omega (arith, there)) (λ j l n. one-records j (omega (arith, n))) in
-          let most : h.used + 1 ≤ mostRecords = omega (arith, free-there u, S.size.most) in
+          let most : h.used + 1 ≤ most_records = omega (arith, free-there u, S.size.most) in
           record {
             long = rw u (stored-length one h.used p.added there f ∙ kept₁.long);
             records = rw u records;
@@ -193,45 +193,45 @@ module _ (books : Books) (s : List ℕ) (ok : sound books.table ≡ true) (done 
 
   -- the header after it
   abbrev pub after : Header
-  after = headerAfter h (stampOf s) p
+  after = header_after h (stamp_of s) p
 
-  day-good : after.day ≤ dayClosed
-  unfolding headerAfter
+  day-good : after.day ≤ day_closed
+  unfolding header_after
   day-good = by p.begins K.1.1.begins
     where
-      by : (b : Begins) → Begun b → dayAfter h.day b ≤ dayClosed
+      by : (b : Begins) → Begun b → day_after h.day b ≤ day_closed
       by Nothing g = S.head.day
       by (Day day) g = g
       by (Block k on) g = S.head.day
 
   -- no bit past the firm count
   blocked-good : after.blocked < 2 ^ h.count
-  unfolding headerAfter
+  unfolding header_after
   blocked-good = by p.begins
     where
-      by : (b : Begins) → blockedAfter h b < 2 ^ h.count
+      by : (b : Begins) → blocked_after h b < 2 ^ h.count
       by Nothing = S.head.blocked
       by (Day day) = S.head.blocked
       by (Block k on) = blocked-lt h k on S.head.blocked
 
-  used-good : after.used ≤ recordsIn t
-  unfolding headerAfter
-  used-good = by (isUsed p.added) refl
+  used-good : after.used ≤ records_in t
+  unfolding header_after
+  used-good = by (is_used p.added) refl
     where
-      by : (b : Bool) → isUsed p.added ≡ b → h.used + oneIf b ≤ recordsIn t
+      by : (b : Bool) → is_used p.added ≡ b → h.used + one_if b ≤ records_in t
       by true u = omega (arith, free-there u)
       by false u = omega (arith, S.head.used)
 
-  reference-good : after.reference ≤ endOfReferences
-  unfolding headerAfter
+  reference-good : after.reference ≤ end_of_references
+  unfolding header_after
   reference-good = by p.numbered refl
     where
-      by : (b : Bool) → p.numbered ≡ b → h.reference + oneIf b ≤ endOfReferences
+      by : (b : Bool) → p.numbered ≡ b → h.reference + one_if b ≤ end_of_references
       by true n = omega (arith, reference-there n)
       by false n = omega (arith, S.head.highest-reference)
 
-  good : HeaderGood after (recordsIn t)
-  unfolding headerAfter
+  good : HeaderGood after (records_in t)
+  unfolding header_after
   good =
       let s₀ = S.head in
       record {
@@ -250,7 +250,7 @@ module _ (books : Books) (s : List ℕ) (ok : sound books.table ≡ true) (done 
       }
 
   pub whole : WholeHeader after
-  unfolding headerAfter
+  unfolding header_after
   whole =
       let g = good in
       record {
@@ -264,19 +264,19 @@ module _ (books : Books) (s : List ℕ) (ok : sound books.table ≡ true) (done 
         firms = (holds t S).firms;
       }
 
-  written-sound : sound (committed t place (stampOf s) p) ≡ true
-  unfolding committed headerAfter
+  written-sound : sound (committed t place (stamp_of s) p) ≡ true
+  unfolding committed header_after
   written-sound =
       let long = kept₂.long in
       header-keeps after whole two (same_size t two long S.size) (rw (same-records t two long) good) kept₂.records kept₂.agrees
 
-  pub keeps : sound (committed t place (stampOf s) (comesTo books s).plan) ≡ true
-  keeps = ap (λ (d : Decision). sound (committed t place (stampOf s) d.plan)) P.is ∙ written-sound
+  pub keeps : sound (committed t place (stamp_of s) (comes_to books s).plan) ≡ true
+  keeps = ap (λ (d : Decision). sound (committed t place (stamp_of s) d.plan)) P.is ∙ written-sound
 
 -- ---- and every record of a sound table is as the paper says
 
 record-paper : (s : List ℕ) → RecordGood s → Paper (order_of s)
-unfolding openShares
+unfolding open_shares
 record-paper s g = by g.standing
   where
     by : Live (order_of s) ⊎ (Dead (order_of s) ⊎ Rejected s (order_of s)) → Paper (order_of s)
@@ -298,4 +298,4 @@ record-paper s g = by g.standing
 
 pub every-record : (t : List ℕ) → sound t ≡ true → EveryRecord t
 unfolding order_at
-every-record t ok i l = record-paper (recordBytes t i) ((of-sound t ok).records i l)
+every-record t ok i l = record-paper (record_bytes t i) ((of-sound t ok).records i l)

@@ -1,46 +1,46 @@
 -- What is true of every single step, whatever it is called on: only 'done' changes anything, a sound table stays sound and a right list right. Assumes nothing.
 use Rattle.octets.proofs.Proving.{Bool, List, ◌∙◌, ◌≡◌, ap, false, false≢true, length, not, refl, subst, sym, true, ℕ}
 use Rattle.octets.specs.Choice.{◌⇒◌⨾◌}
-use Rattle.answers.specs.Answer.{isDone}
+use Rattle.answers.specs.Answer.{is_done}
 use Rattle.table.specs.Table.{sound}
-use Rattle.tape.specs.Entries.{stampOf}
-use Rattle.outbox.specs.Outbox.{ringGood}
-use Rattle.stocks.specs.Stocks.{listGood}
-use Rattle.host.specs.Step.{World, Outcome, namedPlace, comesTo, noRoom, carriedOut, settle, offer, step, booksAfter, worldAfter, unchanged}
+use Rattle.tape.specs.Entries.{stamp_of}
+use Rattle.outbox.specs.Outbox.{ring_good}
+use Rattle.stocks.specs.Stocks.{list_good}
+use Rattle.host.specs.Step.{World, Outcome, named_place, comes_to, no_room, carried_out, settle, offer, step, books_after, world_after, unchanged}
 use Rattle.laws.specs.Ready.{Ready}
 use Rattle.laws.specs.Records.{EveryRecord}
 use Rattle.laws.proofs.Types.{Blocked, Done, NotSound, WrongRing, WrongStocks, Decision}
 use Rattle.laws.proofs.Sounds.{keeps, every-record}
 
 -- a step, by what was judged: table, ring, list, whether the entry comes to something done, and whether there is no room for its message
-abbrev pub stepBy : World → List ℕ → Decision → Bool → Bool → Bool → Bool → Bool → Outcome
-stepBy w s d tableGood ringRight listRight done full =
-    not tableGood ⇒ unchanged w NotSound
-    ⨾ not ringRight ⇒ unchanged w WrongRing
-    ⨾ not listRight ⇒ unchanged w WrongStocks
-    ⨾ done ⇒ (full ⇒ unchanged w Blocked ⨾ record { answer = Done; world = worldAfter w (namedPlace w.books.table s) (stampOf s) d.plan })
+abbrev pub step_by : World → List ℕ → Decision → Bool → Bool → Bool → Bool → Bool → Outcome
+step_by w s d table_good ring_right list_right done full =
+    not table_good ⇒ unchanged w NotSound
+    ⨾ not ring_right ⇒ unchanged w WrongRing
+    ⨾ not list_right ⇒ unchanged w WrongStocks
+    ⨾ done ⇒ (full ⇒ unchanged w Blocked ⨾ record { answer = Done; world = world_after w (named_place w.books.table s) (stamp_of s) d.plan })
     ⨾ unchanged w d.answer
 
 module _ (w : World) (s : List ℕ) where
   abbrev pub comes : Decision
-  comes = comesTo w.books s
+  comes = comes_to w.books s
 
   abbrev pub full : Bool
-  full = noRoom w (stampOf s) comes.plan
+  full = no_room w (stamp_of s) comes.plan
 
-  pub step_by : step w s ≡ stepBy w s comes (sound w.books.table) (ringGood (length w.ring) w.marks) (listGood w.books.stocks) (isDone comes.answer) full
-  unfolding step offer settle carriedOut
-  step_by = refl
+  pub step_by_lem : step w s ≡ step_by w s comes (sound w.books.table) (ring_good (length w.ring) w.marks) (list_good w.books.stocks) (is_done comes.answer) full
+  unfolding step offer settle carried_out
+  step_by_lem = refl
 
   -- an answer other than 0 leaves table, ring, marks and list as they were
-  pub only-done-changes : isDone (step w s).answer ≡ false → (step w s).world ≡ w
-  unfolding isDone
+  pub only-done-changes : is_done (step w s).answer ≡ false → (step w s).world ≡ w
+  unfolding is_done
   only-done-changes h =
-      ap (λ (o : Outcome). o.world) step_by
-      ∙ by (sound w.books.table) (ringGood (length w.ring) w.marks) (listGood w.books.stocks) (isDone comes.answer) full (ap (λ (o : Outcome). isDone o.answer) (sym step_by) ∙ h)
+      ap (λ (o : Outcome). o.world) step_by_lem
+      ∙ by (sound w.books.table) (ring_good (length w.ring) w.marks) (list_good w.books.stocks) (is_done comes.answer) full (ap (λ (o : Outcome). is_done o.answer) (sym step_by_lem) ∙ h)
     where
-      by : (tableGood ringRight listRight done full : Bool) → isDone (stepBy w s comes tableGood ringRight listRight done full).answer ≡ false
-          → (stepBy w s comes tableGood ringRight listRight done full).world ≡ w
+      by : (table_good ring_right list_right done full : Bool) → is_done (step_by w s comes table_good ring_right list_right done full).answer ≡ false
+          → (step_by w s comes table_good ring_right list_right done full).world ≡ w
       by false r l d f h = refl
       by true false l d f h = refl
       by true true false d f h = refl
@@ -51,19 +51,19 @@ module _ (w : World) (s : List ℕ) where
   -- and 0 is answered where nothing was wrong, and the plan carried out
   pub record Does (o : Outcome) : Type 0 where
     pub ready : Ready w
-    pub comes-done : isDone comes.answer ≡ true
-    pub world : o.world ≡ worldAfter w (namedPlace w.books.table s) (stampOf s) comes.plan
+    pub comes-done : is_done comes.answer ≡ true
+    pub world : o.world ≡ world_after w (named_place w.books.table s) (stamp_of s) comes.plan
 
-  pub done-does : isDone (step w s).answer ≡ true → Does (step w s)
-  unfolding isDone
+  pub done-does : is_done (step w s).answer ≡ true → Does (step w s)
+  unfolding is_done
   done-does h =
-      subst Does (sym step_by)
-      (by (sound w.books.table) (ringGood (length w.ring) w.marks) (listGood w.books.stocks) (isDone comes.answer) full refl refl refl refl
-      (ap (λ (o : Outcome). isDone o.answer) (sym step_by) ∙ h))
+      subst Does (sym step_by_lem)
+      (by (sound w.books.table) (ring_good (length w.ring) w.marks) (list_good w.books.stocks) (is_done comes.answer) full refl refl refl refl
+      (ap (λ (o : Outcome). is_done o.answer) (sym step_by_lem) ∙ h))
     where
-      by : (tableGood ringRight listRight done full : Bool) → sound w.books.table ≡ tableGood → ringGood (length w.ring) w.marks ≡ ringRight
-          → listGood w.books.stocks ≡ listRight → isDone comes.answer ≡ done
-          → isDone (stepBy w s comes tableGood ringRight listRight done full).answer ≡ true → Does (stepBy w s comes tableGood ringRight listRight done full)
+      by : (table_good ring_right list_right done full : Bool) → sound w.books.table ≡ table_good → ring_good (length w.ring) w.marks ≡ ring_right
+          → list_good w.books.stocks ≡ list_right → is_done comes.answer ≡ done
+          → is_done (step_by w s comes table_good ring_right list_right done full).answer ≡ true → Does (step_by w s comes table_good ring_right list_right done full)
       by false r l d f t g q e h = absurd (false≢true h)
       by true false l d f t g q e h = absurd (false≢true h)
       by true true false d f t g q e h = absurd (false≢true h)
@@ -72,16 +72,16 @@ module _ (w : World) (s : List ℕ) where
       by true true true true false t g q e h = record { ready = record { table = t; ring = g; stocks = q }; comes-done = e; world = refl }
 
   -- so whatever is asked of a step is asked of what stays, and of what was done
-  pub either : {P : Type 0} → ((step w s).world ≡ w → P) → (isDone (step w s).answer ≡ true → Does (step w s) → P) → P
-  either {P} same does = by (isDone (step w s).answer) refl
+  pub either : {P : Type 0} → ((step w s).world ≡ w → P) → (is_done (step w s).answer ≡ true → Does (step w s) → P) → P
+  either {P} same does = by (is_done (step w s).answer) refl
     where
-      by : (b : Bool) → isDone (step w s).answer ≡ b → P
+      by : (b : Bool) → is_done (step w s).answer ≡ b → P
       by false q = same (only-done-changes q)
       by true q = does q (done-does q)
 
   -- a sound table stays sound
   pub stays-sound : sound w.books.table ≡ true → sound (step w s).world.books.table ≡ true
-  unfolding worldAfter booksAfter
+  unfolding world_after books_after
   stays-sound ok =
       either (λ e. ap (λ (x : World). sound x.books.table) e ∙ ok)
       λ _ d. ap (λ (x : World). sound x.books.table) d.world ∙ keeps w.books s ok d.comes-done

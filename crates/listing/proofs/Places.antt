@@ -1,7 +1,7 @@
 -- The fewest decimal digits that hold a number are counted by dividing it by ten until it is a digit. Assumes nothing.
 use Rattle.octets.proofs.Proving.{Bool, ◌*◌, ◌+◌, ◌-◌, ◌/◌, ◌<◌, ◌^◌, ◌∙◌, ◌≡◌, ◌≤◌, ap, arith, div-lt_iff_lt-mul, false, le-div_iff_mul-le, le-ltb, leb, leb-false, leb-true, length, length-append, lit<, lt-ltb, not-suc-le-zero, pow-le-pow_right, pow-suc, refl, subst, suc, sym, true, zero, ℕ}
 use Rattle.io.specs.Digits.{last_digits, IsDigitCount}
-use Rattle.listing.specs.Lines.{placesWithin, decimal}
+use Rattle.listing.specs.Lines.{places_within, decimal}
 use Rattle.listing.specs.Drawing.{cells}
 
 -- what takes one digit more than suc j is at least the lowest number that does
@@ -25,8 +25,8 @@ no_digit n j f =
     let some : 1 ≤ 10 ^ j = pow-le-pow_right {n = 10} (lit< tt) {i = 0} {j = j} (omega arith) in
     omega (arith, least n j f)
 
-pub fewest-places : (more n k : ℕ) → k ≤ suc more → IsDigitCount 10 1 n k → k ≡ placesWithin more n
-unfolding placesWithin
+pub fewest-places : (more n k : ℕ) → k ≤ suc more → IsDigitCount 10 1 n k → k ≡ places_within more n
+unfolding places_within
 fewest-places more n zero h f = absurd (not-suc-le-zero f.0)
 fewest-places zero n (suc zero) h f = refl
 fewest-places (suc more) n (suc zero) h f = simp (lt-ltb _ _ f.1)

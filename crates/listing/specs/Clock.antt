@@ -4,12 +4,12 @@ use Prim.Native.Char.{code}
 use Rattle.octets.specs.Bytes.{joined}
 use Rattle.io.specs.Digits.{last_digits}
 
-abbrev pub nineDigits : ℕ → List ℕ
-nineDigits n = last_digits 10 9 n
+abbrev pub nine_digits : ℕ → List ℕ
+nine_digits n = last_digits 10 9 n
 
 -- what stands behind a price's point: its last four digits
-abbrev pub fourDigits : ℕ → List ℕ
-fourDigits n = last_digits 10 4 n
+abbrev pub four_digits : ℕ → List ℕ
+four_digits n = last_digits 10 4 n
 
 -- hh:mm:ss.nnnnnnnnn
 unfoldable pub clock : ℕ → List ℕ
@@ -18,4 +18,4 @@ clock stamp =
     let minutes = seconds / 60 in
     joined
     (last_digits 10 2 (minutes / 60) ∷ (code ":" ∷ []) ∷ last_digits 10 2 (minutes % 60) ∷ (code ":" ∷ []) ∷ last_digits 10 2 (seconds % 60) ∷ (code "." ∷ [])
-    ∷ nineDigits (stamp % 1000000000) ∷ [])
+    ∷ nine_digits (stamp % 1000000000) ∷ [])

@@ -7,13 +7,13 @@ use Rattle.octets.specs.Bytes.{joined}
 pub use Rattle.listing.specs.declared.lines.Shown.{Shown}
 
 -- how many decimal digits hold n, where `more` above the first are enough
-unfoldable pub placesWithin : ℕ → ℕ → ℕ
-placesWithin zero n = 1
-placesWithin (suc more) n = pick (ltb n 10) 1 (suc (placesWithin more (n / 10)))
+unfoldable pub places_within : ℕ → ℕ → ℕ
+places_within zero n = 1
+places_within (suc more) n = pick (ltb n 10) 1 (suc (places_within more (n / 10)))
 
 -- twenty hold every number below 2 ^ 64
 unfoldable pub decimal : ℕ → List ℕ
-decimal n = last_digits 10 (placesWithin 19 n) n
+decimal n = last_digits 10 (places_within 19 n) n
 
 abbrev pub space : ℕ
 space = code " "
@@ -47,21 +47,21 @@ pub record Says (shown : Shown) (text : List ℕ) : Type 0 where
 
 -- ---- the lines
 
-abbrev pub inHex : ℕ → List ℕ
-inHex kind = spaced (last_digits 16 2 kind)
+abbrev pub in_hex : ℕ → List ℕ
+in_hex kind = spaced (last_digits 16 2 kind)
 
 -- 'entry number, kind in hex, answer, type sent or a dash'
 unfoldable pub line : ℕ → ℕ → ℕ → ℕ → List ℕ
 line number kind answer sent =
-    joined (decimal number ∷ inHex kind ∷ decimal answer ∷ (space ∷ sent ∷ newline ∷ []) ∷ [])
+    joined (decimal number ∷ in_hex kind ∷ decimal answer ∷ (space ∷ sent ∷ newline ∷ []) ∷ [])
 
 -- 'type sent or a dash', of the bytes that were sent
-unfoldable pub typeShown : List ℕ → ℕ
-typeShown sent = pick (eqb (length sent) 0) (code "-") (get_or sent 0 0)
+unfoldable pub type_shown : List ℕ → ℕ
+type_shown sent = pick (eqb (length sent) 0) (code "-") (get_or sent 0 0)
 
 -- 'entries answered 0, bytes sent'
-unfoldable pub lastLine : ℕ → ℕ → List ℕ
-lastLine taken sent = joined (text "taken " ∷ decimal taken ∷ text " bytes " ∷ decimal sent ∷ (newline ∷ []) ∷ [])
+unfoldable pub last_line : ℕ → ℕ → List ℕ
+last_line taken sent = joined (text "taken " ∷ decimal taken ∷ text " bytes " ∷ decimal sent ∷ (newline ∷ []) ∷ [])
 
 -- the first `len` bytes are the text, and all of them are there
 pub record Shows (shown : Shown) (text : List ℕ) : Type 0 where

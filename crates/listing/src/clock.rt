@@ -1,7 +1,7 @@
 // A stamp as the time of day.
 ghost use Rattle.std.specs.Prelude.{◌≡◌, ◌%◌};
 ghost use Rattle.io.specs.Digits.{hex_digit_ascii};
-ghost use Rattle.listing.specs.Clock.{clock, nineDigits};
+ghost use Rattle.listing.specs.Clock.{clock, nine_digits};
 
 // The last decimal digit.
 pub(crate) fn digit(n: u64) -> u8
@@ -44,7 +44,7 @@ pub fn clock(stamp: u64) -> [u8; 18]
 
 // Nine digits, zeros in front.
 fn nanoseconds(n: u64) -> [u8; 9]
-    ensures { result ≡ nineDigits n }
+    ensures { result ≡ nine_digits n }
 {
     let n1 = n / 10;
     let n2 = n1 / 10;

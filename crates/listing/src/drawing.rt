@@ -1,7 +1,7 @@
 // A ring drawn in a line of text: 64 cells from its first byte to its last, and its marks.
 ghost use Rattle.std.specs.Prelude.{◌≡◌, ◌<◌, ◌^◌};
 ghost use Rattle.listing.specs.Lines.{Shows, Says};
-ghost use Rattle.listing.specs.Drawing.{cellCount, firstPlace, is_held, isReadPlace, cell, cells, drawing};
+ghost use Rattle.listing.specs.Drawing.{cell_count, first_place, is_held, is_read_place, cell, cells, drawing};
 
 use crate::lines::Shown;
 use crate::text::{blank, named, said};
@@ -10,7 +10,7 @@ const CELLS: u8 = 64;
 
 // The place at which cell k begins.
 fn first_place(size: u32, k: u8) -> u64
-    ensures { (result ≡ firstPlace size k) × (result < 2 ^ 40) }
+    ensures { (result ≡ first_place size k) × (result < 2 ^ 40) }
 {
     size as u64 * k as u64 / CELLS as u64
 }
@@ -26,15 +26,15 @@ fn is_held(size: u32, at: u32, held: u32, place: u64) -> bool
 
 // Whether the read place lies in cell k.
 fn is_read_place(size: u32, at: u32, k: u8) -> bool
-    requires { k < cellCount }
-    ensures { result ≡ isReadPlace size at k }
+    requires { k < cell_count }
+    ensures { result ≡ is_read_place size at k }
 {
     (first_place(size, k) <= at as u64) & ((at as u64) < first_place(size, k + 1))
 }
 
 // The read place; otherwise held or free, as the cell's first byte is.
 fn cell(size: u32, at: u32, held: u32, k: u8) -> u8
-    requires { k < cellCount }
+    requires { k < cell_count }
     ensures { result ≡ cell size at held k }
 {
     if is_read_place(size, at, k) {
@@ -47,7 +47,7 @@ fn cell(size: u32, at: u32, held: u32, k: u8) -> u8
 }
 
 fn cells(size: u32, at: u32, held: u32) -> Shown
-    ensures { Says result (cells size at held cellCount) × (result.len ≡ cellCount) }
+    ensures { Says result (cells size at held cell_count) × (result.len ≡ cell_count) }
 {
     let mut drawn = blank();
     let mut k: u8 = 0;

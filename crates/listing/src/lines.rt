@@ -1,7 +1,7 @@
 // The lines of a listing, each at the front of some bytes.
 ghost use Rattle.std.specs.Prelude.{◌≡◌, ◌<◌};
 ghost use Rattle.io.specs.Digits.{hex_digit_ascii};
-ghost use Rattle.listing.specs.Lines.{line, typeShown, lastLine, Shows, inHex};
+ghost use Rattle.listing.specs.Lines.{line, type_shown, last_line, Shows, in_hex};
 
 use crate::text::{blank, named, said};
 
@@ -28,7 +28,7 @@ fn sixteenth(d: u8) -> u8
 }
 
 fn in_hex(kind: u8) -> [u8; 4]
-    ensures { result ≡ inHex kind }
+    ensures { result ≡ in_hex kind }
 {
     [b' ', sixteenth(kind / 16), sixteenth(kind % 16), b' ']
 }
@@ -44,7 +44,7 @@ pub fn line(number: u64, kind: u8, answer: u8, sent: u8) -> Shown
 
 // The type of what was sent, which is its first byte, or a dash.
 pub fn type_shown(sent: &[u8]) -> u8
-    ensures { result ≡ typeShown sent.now }
+    ensures { result ≡ type_shown sent.now }
 {
     if sent.len() == 0 {
         return b'-';
@@ -54,7 +54,7 @@ pub fn type_shown(sent: &[u8]) -> u8
 
 // Entries answered 0, bytes sent.
 pub fn last_line(taken: u64, sent: u64) -> Shown
-    ensures { Shows result (lastLine taken sent) }
+    ensures { Shows result (last_line taken sent) }
 {
     let counted = named(blank(), b"taken ", taken);
     said(named(counted, b" bytes ", sent), b"\n")

@@ -2,31 +2,31 @@
 -- reaches 0 is dead.
 use Rattle.std.specs.Prelude.{Bool, true, not, ◌||◌, eqb}
 use Rattle.wire.specs.Shares.{◌exceeds◌}
-use Rattle.orders.specs.Counts.{openShares, cut, executing, selfMatching}
-use Rattle.orders.specs.Order.{deadIfSpent}
-use Rattle.header.specs.Header.{isOpenDay}
+use Rattle.orders.specs.Counts.{open_shares, cut, executing, self_matching}
+use Rattle.orders.specs.Order.{dead_if_spent}
+use Rattle.header.specs.Header.{is_open_day}
 use Rattle.rules.specs.Plan.{allowed, changing}
-use Rattle.market.specs.Guards.{marketAnswer}
+use Rattle.market.specs.Guards.{market_answer}
 use Rattle.market.specs.Types.{Canceled, Executed, AiqCancelled, Decision, Removed, Order, Header, Execution, BookCancel, SelfMatch}
 
 -- 6: shares 0 or above open
-unfoldable pub sharesRight : Order → Removed → Bool
-sharesRight o shares = not (eqb shares.0 0 || shares exceeds openShares o.shares)
+unfoldable pub shares_right : Order → Removed → Bool
+shares_right o shares = not (eqb shares.0 0 || shares exceeds open_shares o.shares)
 
 -- Executed, executed grows
-unfoldable pub executionRule : Header → Order → Execution → Decision
-executionRule h o e =
-    allowed (marketAnswer o (isOpenDay h) (sharesRight o e.shares))
-    (changing (deadIfSpent o (executing o.shares e.shares)) (Executed e))
+unfoldable pub execution_rule : Header → Order → Execution → Decision
+execution_rule h o e =
+    allowed (market_answer o (is_open_day h) (shares_right o e.shares))
+    (changing (dead_if_spent o (executing o.shares e.shares)) (Executed e))
 
 -- Canceled, liable falls; the book may cancel on any day
-unfoldable pub bookCancelRule : Order → BookCancel → Decision
-bookCancelRule o e =
-    allowed (marketAnswer o true (sharesRight o e.shares))
-    (changing (deadIfSpent o (cut o.shares e.shares)) (Canceled e.shares e.reason))
+unfoldable pub book_cancel_rule : Order → BookCancel → Decision
+book_cancel_rule o e =
+    allowed (market_answer o true (shares_right o e.shares))
+    (changing (dead_if_spent o (cut o.shares e.shares)) (Canceled e.shares e.reason))
 
 -- AIQ Cancelled, self-matched grows
-unfoldable pub selfMatchRule : Header → Order → SelfMatch → Decision
-selfMatchRule h o e =
-    allowed (marketAnswer o (isOpenDay h) (sharesRight o e.shares))
-    (changing (deadIfSpent o (selfMatching o.shares e.shares)) (AiqCancelled e))
+unfoldable pub self_match_rule : Header → Order → SelfMatch → Decision
+self_match_rule h o e =
+    allowed (market_answer o (is_open_day h) (shares_right o e.shares))
+    (changing (dead_if_spent o (self_matching o.shares e.shares)) (AiqCancelled e))

@@ -1,6 +1,6 @@
 // l f: an order is late for its cross, until the cross is done.
 ghost use Rattle.std.specs.Prelude.{◌≡◌};
-ghost use Rattle.market.specs.Cross.{lateRule, crossDone, crossDoneRule};
+ghost use Rattle.market.specs.Cross.{late_rule, cross_done, cross_done_rule};
 
 use crate::guards::market_answer;
 use answers::is_done;
@@ -11,7 +11,7 @@ use orders::order::{Order, cleared, is, killed, marked};
 use rules::plan::{Decision, Notice, changing, refused};
 
 pub fn late(h: Header, o: Order) -> Decision
-    ensures { result ≡ lateRule h o }
+    ensures { result ≡ late_rule h o }
 {
     let moment = is_open_day(h) & !(o.details.kept.cross == b'N') & !is(o, Flag::Late);
     let answer = market_answer(o, moment, true);
@@ -23,7 +23,7 @@ pub fn late(h: Header, o: Order) -> Decision
 
 // Of a late order: a cancel that waited takes all that is open.
 fn cross_done_of(o: Order) -> Decision
-    ensures { result ≡ crossDone o }
+    ensures { result ≡ cross_done o }
 {
     let on_time = cleared(o, Flag::Late);
     if is(o, Flag::Pending) {
@@ -35,7 +35,7 @@ fn cross_done_of(o: Order) -> Decision
 }
 
 pub fn cross_done(o: Order) -> Decision
-    ensures { result ≡ crossDoneRule o }
+    ensures { result ≡ cross_done_rule o }
 {
     let answer = market_answer(o, is(o, Flag::Late), true);
     if is_done(answer) {

@@ -1,6 +1,6 @@
 // s: the day begins or ends.
 ghost use Rattle.std.specs.Prelude.{◌≡◌};
-ghost use Rattle.market.specs.Day.{systemRule};
+ghost use Rattle.market.specs.Day.{system_rule};
 
 use answers::Answer;
 use header::{BEFORE, CLOSED, Header, OPEN};
@@ -8,7 +8,7 @@ use rules::plan::{Decision, beginning, refused};
 use tape::entry::System;
 
 pub fn system(h: Header, e: System) -> Decision
-    ensures { result ≡ systemRule h e }
+    ensures { result ≡ system_rule h e }
 {
     if (e.event == b'S') & (h.day == BEFORE) {
         return beginning(OPEN, e.event);

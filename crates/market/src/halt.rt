@@ -1,6 +1,6 @@
 // h: a stock is halted, or trades again.
 ghost use Rattle.std.specs.Prelude.{◌≡◌};
-ghost use Rattle.market.specs.Halt.{haltRule};
+ghost use Rattle.market.specs.Halt.{halt_rule};
 
 use answers::Answer;
 use rules::plan::{Decision, refused, setting};
@@ -9,7 +9,7 @@ use tape::entry::StockState;
 
 // A stock may be halted on any day, and twice.
 pub fn halt(standing: Standing, e: StockState) -> Decision
-    ensures { result ≡ haltRule standing e }
+    ensures { result ≡ halt_rule standing e }
 {
     if is_listed(standing) {
         return setting(e);

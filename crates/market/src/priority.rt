@@ -1,6 +1,6 @@
 // p: an order gets another price, and with it another reference.
 ghost use Rattle.std.specs.Prelude.{◌≡◌};
-ghost use Rattle.market.specs.Priority.{prioritisedOrder, priorityRule};
+ghost use Rattle.market.specs.Priority.{prioritised_order, priority_rule};
 
 use crate::guards::market_answer;
 use answers::is_done;
@@ -10,7 +10,7 @@ use rules::plan::{Decision, Notice, refused, renumbering};
 use tape::entry::Priority;
 
 fn prioritised_order(h: Header, o: Order, e: Priority) -> Order
-    ensures { result ≡ prioritisedOrder h o e }
+    ensures { result ≡ prioritised_order h o e }
 {
     let kept = o.details.kept;
     let previous = o.details.previous;
@@ -33,7 +33,7 @@ fn prioritised_order(h: Header, o: Order, e: Priority) -> Order
 }
 
 pub fn priority(h: Header, o: Order, e: Priority) -> Decision
-    ensures { result ≡ priorityRule h o e }
+    ensures { result ≡ priority_rule h o e }
 {
     let answer = market_answer(o, is_open_day(h), true);
     if is_done(answer) {

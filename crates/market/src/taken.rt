@@ -1,6 +1,6 @@
 // e c q: shares are executed, canceled by the book, or taken off to prevent a self match.
 ghost use Rattle.std.specs.Prelude.{◌≡◌};
-ghost use Rattle.market.specs.Taken.{sharesRight, executionRule, bookCancelRule, selfMatchRule};
+ghost use Rattle.market.specs.Taken.{shares_right, execution_rule, book_cancel_rule, self_match_rule};
 
 use crate::guards::market_answer;
 use answers::is_done;
@@ -12,13 +12,13 @@ use tape::entry::{BookCancel, Execution, SelfMatch};
 use wire::shares::Removed;
 
 fn shares_right(o: Order, shares: Removed) -> bool
-    ensures { result ≡ sharesRight o shares }
+    ensures { result ≡ shares_right o shares }
 {
     !((shares.0 == 0) | shares.exceeds(open_shares(o.shares)))
 }
 
 pub fn execution(h: Header, o: Order, e: Execution) -> Decision
-    ensures { result ≡ executionRule h o e }
+    ensures { result ≡ execution_rule h o e }
 {
     let answer = market_answer(o, is_open_day(h), shares_right(o, e.shares));
     if is_done(answer) {
@@ -30,7 +30,7 @@ pub fn execution(h: Header, o: Order, e: Execution) -> Decision
 
 // The book may cancel on any day.
 pub fn book_cancel(o: Order, e: BookCancel) -> Decision
-    ensures { result ≡ bookCancelRule o e }
+    ensures { result ≡ book_cancel_rule o e }
 {
     let answer = market_answer(o, true, shares_right(o, e.shares));
     if is_done(answer) {
@@ -42,7 +42,7 @@ pub fn book_cancel(o: Order, e: BookCancel) -> Decision
 }
 
 pub fn self_match(h: Header, o: Order, e: SelfMatch) -> Decision
-    ensures { result ≡ selfMatchRule h o e }
+    ensures { result ≡ self_match_rule h o e }
 {
     let answer = market_answer(o, is_open_day(h), shares_right(o, e.shares));
     if is_done(answer) {

@@ -1,9 +1,9 @@
 -- The message that a plan sends, stamped with the entry's stamp (Answer numbers, in order of checking, last sentence; What each entry does).
 use Rattle.std.specs.Prelude.{ℕ, List, [], length}
-use Rattle.wire.specs.Letters.{selfMatchPrevention, unspecifiedWeight}
-use Rattle.wire.specs.Messages.{inEighty}
-use Rattle.orders.specs.Counts.{openShares}
-use Rattle.outbound.specs.Outbound.{systemEventBytes, acceptedBytes, replacedBytes, canceledBytes, aiqCancelledBytes, executedBytes, rejectedBytes, cancelPendingBytes, cancelRejectBytes, priorityUpdateBytes, modifiedBytes}
+use Rattle.wire.specs.Letters.{self_match_prevention, unspecified_weight}
+use Rattle.wire.specs.Messages.{in_eighty}
+use Rattle.orders.specs.Counts.{open_shares}
+use Rattle.outbound.specs.Outbound.{system_event_bytes, accepted_bytes, replaced_bytes, canceled_bytes, aiq_cancelled_bytes, executed_bytes, rejected_bytes, cancel_pending_bytes, cancel_reject_bytes, priority_update_bytes, modified_bytes}
 use Rattle.outbound.specs.declared.stated.Stated.{Stated}
 use Rattle.outbound.specs.declared.accepted.Accepted.{Accepted as AcceptedMessage}
 use Rattle.outbound.specs.declared.replaced.Replaced.{Replaced as ReplacedMessage}
@@ -16,13 +16,13 @@ use Rattle.outbound.specs.declared.modified.Modified.{Modified as ModifiedMessag
 use Rattle.notices.specs.Types.{Order, Plan, Notice, Removed, SelfMatch, Execution, Sent, Accepted, AiqCancelled, CancelPending, CancelReject, Canceled, Executed, Modified, PriorityUpdate, Rejected, Replaced, Silent, SystemEvent}
 
 -- fields echoed and so stored; Shares = open
-unfoldable pub statedOrder : Order → Stated
-statedOrder o =
+unfoldable pub stated_order : Order → Stated
+stated_order o =
     let k = o.details.kept in
     let t = o.details.terms in
     record {
       side = o.side;
-      shares = openShares o.shares;
+      shares = open_shares o.shares;
       stock = k.stock;
       price = t.price;
       time = t.time;
@@ -37,37 +37,37 @@ statedOrder o =
     }
 
 -- weight is a space
-unfoldable pub acceptedNotice : ℕ → Order → AcceptedMessage
-acceptedNotice stamp new = record { stamp = stamp; token = new.token; order = statedOrder new; weight = unspecifiedWeight }
+unfoldable pub accepted_notice : ℕ → Order → AcceptedMessage
+accepted_notice stamp new = record { stamp = stamp; token = new.token; order = stated_order new; weight = unspecified_weight }
 
 -- the previous token is the existing one
-unfoldable pub replacedNotice : ℕ → Order → ReplacedMessage
-replacedNotice stamp new =
+unfoldable pub replaced_notice : ℕ → Order → ReplacedMessage
+replaced_notice stamp new =
     record {
       stamp = stamp;
       token = new.token;
-      order = statedOrder new;
+      order = stated_order new;
       previous = new.details.previous;
-      weight = unspecifiedWeight;
+      weight = unspecified_weight;
     }
 
-unfoldable pub canceledNotice : ℕ → Order → Removed → ℕ → CanceledMessage
-canceledNotice stamp o decrement reason = record { stamp = stamp; token = o.token; decrement = decrement; reason = reason }
+unfoldable pub canceled_notice : ℕ → Order → Removed → ℕ → CanceledMessage
+canceled_notice stamp o decrement reason = record { stamp = stamp; token = o.token; decrement = decrement; reason = reason }
 
-unfoldable pub selfMatchNotice : ℕ → Order → SelfMatch → AiqCancelledMessage
-selfMatchNotice stamp o e =
+unfoldable pub self_match_notice : ℕ → Order → SelfMatch → AiqCancelledMessage
+self_match_notice stamp o e =
     record {
       stamp = stamp;
       token = o.token;
       decrement = e.shares;
-      reason = selfMatchPrevention;
+      reason = self_match_prevention;
       prevented = e.prevented;
       price = e.price;
       flag = e.flag;
     }
 
-unfoldable pub executedNotice : ℕ → Order → Execution → ExecutedMessage
-executedNotice stamp o e =
+unfoldable pub executed_notice : ℕ → Order → Execution → ExecutedMessage
+executed_notice stamp o e =
     record {
       stamp = stamp;
       token = o.token;
@@ -77,12 +77,12 @@ executedNotice stamp o e =
       match_number = e.match_number;
     }
 
-unfoldable pub rejectedNotice : ℕ → Order → ℕ → RejectedMessage
-rejectedNotice stamp new reason = record { stamp = stamp; token = new.token; reason = reason }
+unfoldable pub rejected_notice : ℕ → Order → ℕ → RejectedMessage
+rejected_notice stamp new reason = record { stamp = stamp; token = new.token; reason = reason }
 
 -- price, display Y and new reference, as stored
-unfoldable pub priorityNotice : ℕ → Order → PriorityUpdateMessage
-priorityNotice stamp o =
+unfoldable pub priority_notice : ℕ → Order → PriorityUpdateMessage
+priority_notice stamp o =
     record {
       stamp = stamp;
       token = o.token;
@@ -92,27 +92,27 @@ priorityNotice stamp o =
     }
 
 -- Modified shows the new open
-unfoldable pub modifiedNotice : ℕ → Order → ModifiedMessage
-modifiedNotice stamp o = record { stamp = stamp; token = o.token; side = o.side; shares = openShares o.shares }
+unfoldable pub modified_notice : ℕ → Order → ModifiedMessage
+modified_notice stamp o = record { stamp = stamp; token = o.token; side = o.side; shares = open_shares o.shares }
 
 -- o is the changed order, new the added one
-unfoldable pub noticeBytes : ℕ → Order → Order → Notice → List ℕ
-noticeBytes stamp o new Silent = []
-noticeBytes stamp o new (SystemEvent event) = systemEventBytes (record { stamp = stamp; event = event })
-noticeBytes stamp o new Accepted = acceptedBytes (acceptedNotice stamp new)
-noticeBytes stamp o new Replaced = replacedBytes (replacedNotice stamp new)
-noticeBytes stamp o new (Canceled decrement reason) = canceledBytes (canceledNotice stamp o decrement reason)
-noticeBytes stamp o new (AiqCancelled e) = aiqCancelledBytes (selfMatchNotice stamp o e)
-noticeBytes stamp o new (Executed e) = executedBytes (executedNotice stamp o e)
-noticeBytes stamp o new (Rejected reason) = rejectedBytes (rejectedNotice stamp new reason)
-noticeBytes stamp o new CancelPending = cancelPendingBytes (record { stamp = stamp; token = o.token })
-noticeBytes stamp o new CancelReject = cancelRejectBytes (record { stamp = stamp; token = o.token })
-noticeBytes stamp o new PriorityUpdate = priorityUpdateBytes (priorityNotice stamp o)
-noticeBytes stamp o new Modified = modifiedBytes (modifiedNotice stamp o)
+unfoldable pub notice_bytes : ℕ → Order → Order → Notice → List ℕ
+notice_bytes stamp o new Silent = []
+notice_bytes stamp o new (SystemEvent event) = system_event_bytes (record { stamp = stamp; event = event })
+notice_bytes stamp o new Accepted = accepted_bytes (accepted_notice stamp new)
+notice_bytes stamp o new Replaced = replaced_bytes (replaced_notice stamp new)
+notice_bytes stamp o new (Canceled decrement reason) = canceled_bytes (canceled_notice stamp o decrement reason)
+notice_bytes stamp o new (AiqCancelled e) = aiq_cancelled_bytes (self_match_notice stamp o e)
+notice_bytes stamp o new (Executed e) = executed_bytes (executed_notice stamp o e)
+notice_bytes stamp o new (Rejected reason) = rejected_bytes (rejected_notice stamp new reason)
+notice_bytes stamp o new CancelPending = cancel_pending_bytes (record { stamp = stamp; token = o.token })
+notice_bytes stamp o new CancelReject = cancel_reject_bytes (record { stamp = stamp; token = o.token })
+notice_bytes stamp o new PriorityUpdate = priority_update_bytes (priority_notice stamp o)
+notice_bytes stamp o new Modified = modified_bytes (modified_notice stamp o)
 
 unfoldable pub message : ℕ → Plan → List ℕ
-message stamp p = noticeBytes stamp p.changed p.added p.notice
+message stamp p = notice_bytes stamp p.changed p.added p.notice
 
 -- the message at the front of 80 bytes, and how many are its own
 unfoldable pub sent : List ℕ → Sent
-sent m = record { bytes = inEighty m; len = length m }
+sent m = record { bytes = in_eighty m; len = length m }

@@ -1,7 +1,7 @@
 // The message that a plan sends, in bytes. At most one message goes out for an entry, and none is longer than 80 bytes.
 ghost use Rattle.std.specs.Prelude.{◌≡◌, []};
-ghost use Rattle.outbound.specs.Outbound.{systemEventBytes, acceptedBytes, replacedBytes, canceledBytes, aiqCancelledBytes, executedBytes, rejectedBytes, cancelPendingBytes, cancelRejectBytes, priorityUpdateBytes, modifiedBytes};
-ghost use Rattle.notices.specs.Notices.{statedOrder, acceptedNotice, replacedNotice, canceledNotice, selfMatchNotice, executedNotice, rejectedNotice, priorityNotice, modifiedNotice, noticeBytes, message, sent};
+ghost use Rattle.outbound.specs.Outbound.{system_event_bytes, accepted_bytes, replaced_bytes, canceled_bytes, aiq_cancelled_bytes, executed_bytes, rejected_bytes, cancel_pending_bytes, cancel_reject_bytes, priority_update_bytes, modified_bytes};
+ghost use Rattle.notices.specs.Notices.{stated_order, accepted_notice, replaced_notice, canceled_notice, self_match_notice, executed_notice, rejected_notice, priority_notice, modified_notice, notice_bytes, message, sent};
 
 use orders::counts::open_shares;
 use orders::order::Order;
@@ -40,7 +40,7 @@ fn silence() -> Sent
 }
 
 fn system_event_sent(stamp: u64, event: u8) -> Sent
-    ensures { result ≡ sent (systemEventBytes (record { stamp = stamp; event = event })) }
+    ensures { result ≡ sent (system_event_bytes (record { stamp = stamp; event = event })) }
 {
     let bytes = spell_system_event(SystemEvent { stamp, event });
     let len = size(SYSTEM_EVENT);
@@ -49,7 +49,7 @@ fn system_event_sent(stamp: u64, event: u8) -> Sent
 
 // What Accepted and Replaced state of a new order.
 fn stated_order(o: Order) -> Stated
-    ensures { result ≡ statedOrder o }
+    ensures { result ≡ stated_order o }
 {
     let shares = open_shares(o.shares);
     let stock = o.details.kept.stock;
@@ -73,7 +73,7 @@ fn stated_order(o: Order) -> Stated
 }
 
 fn accepted_sent(stamp: u64, new: Order) -> Sent
-    ensures { result ≡ sent (acceptedBytes (acceptedNotice stamp new)) }
+    ensures { result ≡ sent (accepted_bytes (accepted_notice stamp new)) }
 {
     let token = new.token;
     let order = stated_order(new);
@@ -88,7 +88,7 @@ fn accepted_sent(stamp: u64, new: Order) -> Sent
 }
 
 fn replaced_sent(stamp: u64, new: Order) -> Sent
-    ensures { result ≡ sent (replacedBytes (replacedNotice stamp new)) }
+    ensures { result ≡ sent (replaced_bytes (replaced_notice stamp new)) }
 {
     let token = new.token;
     let previous = new.details.previous;
@@ -105,7 +105,7 @@ fn replaced_sent(stamp: u64, new: Order) -> Sent
 }
 
 fn canceled_sent(stamp: u64, o: Order, decrement: Removed, reason: u8) -> Sent
-    ensures { result ≡ sent (canceledBytes (canceledNotice stamp o decrement reason)) }
+    ensures { result ≡ sent (canceled_bytes (canceled_notice stamp o decrement reason)) }
 {
     let token = o.token;
     let bytes = spell_canceled(Canceled {
@@ -119,7 +119,7 @@ fn canceled_sent(stamp: u64, o: Order, decrement: Removed, reason: u8) -> Sent
 }
 
 fn self_match_sent(stamp: u64, o: Order, e: SelfMatch) -> Sent
-    ensures { result ≡ sent (aiqCancelledBytes (selfMatchNotice stamp o e)) }
+    ensures { result ≡ sent (aiq_cancelled_bytes (self_match_notice stamp o e)) }
 {
     let token = o.token;
     let decrement = e.shares;
@@ -138,7 +138,7 @@ fn self_match_sent(stamp: u64, o: Order, e: SelfMatch) -> Sent
 }
 
 fn executed_sent(stamp: u64, o: Order, e: Execution) -> Sent
-    ensures { result ≡ sent (executedBytes (executedNotice stamp o e)) }
+    ensures { result ≡ sent (executed_bytes (executed_notice stamp o e)) }
 {
     let token = o.token;
     let shares = e.shares;
@@ -155,7 +155,7 @@ fn executed_sent(stamp: u64, o: Order, e: Execution) -> Sent
 }
 
 fn rejected_sent(stamp: u64, new: Order, reason: u8) -> Sent
-    ensures { result ≡ sent (rejectedBytes (rejectedNotice stamp new reason)) }
+    ensures { result ≡ sent (rejected_bytes (rejected_notice stamp new reason)) }
 {
     let token = new.token;
     let bytes = spell_rejected(Rejected {
@@ -168,7 +168,7 @@ fn rejected_sent(stamp: u64, new: Order, reason: u8) -> Sent
 }
 
 fn cancel_pending_sent(stamp: u64, o: Order) -> Sent
-    ensures { result ≡ sent (cancelPendingBytes (record { stamp = stamp; token = o.token })) }
+    ensures { result ≡ sent (cancel_pending_bytes (record { stamp = stamp; token = o.token })) }
 {
     let token = o.token;
     let bytes = spell_cancel_pending(CancelPending { stamp, token });
@@ -177,7 +177,7 @@ fn cancel_pending_sent(stamp: u64, o: Order) -> Sent
 }
 
 fn cancel_reject_sent(stamp: u64, o: Order) -> Sent
-    ensures { result ≡ sent (cancelRejectBytes (record { stamp = stamp; token = o.token })) }
+    ensures { result ≡ sent (cancel_reject_bytes (record { stamp = stamp; token = o.token })) }
 {
     let token = o.token;
     let bytes = spell_cancel_reject(CancelReject { stamp, token });
@@ -186,7 +186,7 @@ fn cancel_reject_sent(stamp: u64, o: Order) -> Sent
 }
 
 fn priority_sent(stamp: u64, o: Order) -> Sent
-    ensures { result ≡ sent (priorityUpdateBytes (priorityNotice stamp o)) }
+    ensures { result ≡ sent (priority_update_bytes (priority_notice stamp o)) }
 {
     let token = o.token;
     let bytes = spell_priority_update(PriorityUpdate {
@@ -201,7 +201,7 @@ fn priority_sent(stamp: u64, o: Order) -> Sent
 }
 
 fn modified_sent(stamp: u64, o: Order) -> Sent
-    ensures { result ≡ sent (modifiedBytes (modifiedNotice stamp o)) }
+    ensures { result ≡ sent (modified_bytes (modified_notice stamp o)) }
 {
     let token = o.token;
     let shares = open_shares(o.shares);
@@ -217,7 +217,7 @@ fn modified_sent(stamp: u64, o: Order) -> Sent
 
 // `o` is the changed order, `new` the added one.
 fn notice_sent(stamp: u64, o: Order, new: Order, notice: Notice) -> Sent
-    ensures { result ≡ sent (noticeBytes stamp o new notice) }
+    ensures { result ≡ sent (notice_bytes stamp o new notice) }
 {
     match notice {
         Notice::Silent => silence(),

@@ -4,7 +4,7 @@ use Rattle.octets.proofs.Proving.{Bool, ◌%◌, ◌*◌, ◌+◌, ◌/◌, ◌<
 use lib.Pow.{shl_exact, shr-shr}
 use native.Mathlib.Nat.{one-mul}
 use Rattle.octets.specs.Choice.{pick}
-use Rattle.octets.specs.Bits.{bit_of, withBit}
+use Rattle.octets.specs.Bits.{bit_of, with_bit}
 
 -- ---- a half and a lowest bit
 
@@ -62,27 +62,27 @@ bit-within w b k h e =
 
 -- ---- one bit changed
 
-pub with-same : (b k : ℕ) (on : Bool) → bit_of (withBit b k on) k ≡ on
-unfolding bit_of withBit
+pub with-same : (b k : ℕ) (on : Bool) → bit_of (with_bit b k on) k ≡ on
+unfolding bit_of with_bit
 with-same b zero on = ap (λ (r : ℕ). eqb r 1) (lowest (b / 2) (pick on 1 0) (said on)) ∙ said-again on
-with-same b (suc k) on = ap (λ (x : ℕ). bit_of x k) (half (withBit (b / 2) k on) (b % 2) (rest b)) ∙ with-same (b / 2) k on
+with-same b (suc k) on = ap (λ (x : ℕ). bit_of x k) (half (with_bit (b / 2) k on) (b % 2) (rest b)) ∙ with-same (b / 2) k on
 
 -- another bit stays
-pub with-other : (b k j : ℕ) (on : Bool) → j ≢ k → bit_of (withBit b k on) j ≡ bit_of b j
-unfolding bit_of withBit
+pub with-other : (b k j : ℕ) (on : Bool) → j ≢ k → bit_of (with_bit b k on) j ≡ bit_of b j
+unfolding bit_of with_bit
 with-other b zero zero on d = absurd (d refl)
 with-other b zero (suc j) on d = ap (λ (x : ℕ). bit_of x j) (half (b / 2) (pick on 1 0) (said on))
-with-other b (suc k) zero on d = ap (λ (r : ℕ). eqb r 1) (lowest (withBit (b / 2) k on) (b % 2) (rest b))
+with-other b (suc k) zero on d = ap (λ (r : ℕ). eqb r 1) (lowest (with_bit (b / 2) k on) (b % 2) (rest b))
 with-other b (suc k) (suc j) on d =
-    ap (λ (x : ℕ). bit_of x j) (half (withBit (b / 2) k on) (b % 2) (rest b)) ∙ with-other (b / 2) k j on (λ e. d (ap suc e))
+    ap (λ (x : ℕ). bit_of x j) (half (with_bit (b / 2) k on) (b % 2) (rest b)) ∙ with-other (b / 2) k j on (λ e. d (ap suc e))
 
 -- a bit within the width keeps the number within it
-pub with-lt : (w b k : ℕ) (on : Bool) → k < w → b < 2 ^ w → withBit b k on < 2 ^ w
-unfolding withBit
+pub with-lt : (w b k : ℕ) (on : Bool) → k < w → b < 2 ^ w → with_bit b k on < 2 ^ w
+unfolding with_bit
 with-lt zero b k on h l = absurd (omega arith)
 with-lt (suc w) b zero on h l = omega (arith, pow-suc 2 w, said on)
 with-lt (suc w) b (suc k) on h l =
-    let less : withBit (b / 2) k on < 2 ^ w = with-lt w (b / 2) k on (omega arith) (omega (arith, pow-suc 2 w)) in
+    let less : with_bit (b / 2) k on < 2 ^ w = with-lt w (b / 2) k on (omega arith) (omega (arith, pow-suc 2 w)) in
     omega (arith, pow-suc 2 w, rest b, less)
 
 -- ---- as a sum
@@ -92,28 +92,28 @@ twice true k = omega (arith, pow-suc 2 k)
 twice false k = refl
 
 -- a number is itself without a bit, and the bit where it is set ..
-pub with-off : (b k : ℕ) → withBit b k false + pick (bit_of b k) (2 ^ k) 0 ≡ b
-unfolding bit_of withBit
+pub with-off : (b k : ℕ) → with_bit b k false + pick (bit_of b k) (2 ^ k) 0 ≡ b
+unfolding bit_of with_bit
 with-off b zero = omega (arith, told (b % 2) (rest b))
 with-off b (suc k) = omega (arith, with-off (b / 2) k, twice (bit_of (b / 2) k) k)
 
 -- .. and with the bit, it is that much more than without
-pub with-on : (b k : ℕ) → withBit b k true ≡ withBit b k false + 2 ^ k
-unfolding withBit
+pub with-on : (b k : ℕ) → with_bit b k true ≡ with_bit b k false + 2 ^ k
+unfolding with_bit
 with-on b zero = omega arith
 with-on b (suc k) = omega (arith, with-on (b / 2) k, pow-suc 2 k)
 
 module _ (b k : ℕ) where
-  pub off_set : bit_of b k ≡ true → withBit b k false + 2 ^ k ≡ b
-  off_set e = ap (λ (t : Bool). withBit b k false + pick t (2 ^ k) 0) (sym e) ∙ with-off b k
+  pub off_set : bit_of b k ≡ true → with_bit b k false + 2 ^ k ≡ b
+  off_set e = ap (λ (t : Bool). with_bit b k false + pick t (2 ^ k) 0) (sym e) ∙ with-off b k
 
-  pub off-unset : bit_of b k ≡ false → withBit b k false ≡ b
+  pub off-unset : bit_of b k ≡ false → with_bit b k false ≡ b
   off-unset e =
-      let unset : withBit b k false + 0 ≡ b = ap (λ (t : Bool). withBit b k false + pick t (2 ^ k) 0) (sym e) ∙ with-off b k in
+      let unset : with_bit b k false + 0 ≡ b = ap (λ (t : Bool). with_bit b k false + pick t (2 ^ k) 0) (sym e) ∙ with-off b k in
       omega (arith, unset)
 
 -- as said already: the same
-pub with-kept : (b k : ℕ) (on : Bool) → bit_of b k ≡ on → withBit b k on ≡ b
+pub with-kept : (b k : ℕ) (on : Bool) → bit_of b k ≡ on → with_bit b k on ≡ b
 with-kept b k true e = with-on b k ∙ off_set b k e
 with-kept b k false e = off-unset b k e
 

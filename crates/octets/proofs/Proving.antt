@@ -15,7 +15,7 @@ pub use native.Mathlib.Decide.{dec_le, dec_lt, ℕ_discrete}
 pub use native.Mathlib.Omega.{arith}
 pub use lib.Arith.{lt_of_le-ne, digits_div, digits_mod}
 pub use lib.Dec.{T, eqb, leb, leb-zero as leb·zero, lit<, lit≤, ltb}
-pub use lib.ListN.{length, take, drop, get_or, replicate, set, length-append, length-drop, length-replicate, length-set, length-take, drop_of_length-le, take-append-drop, replicate-append-replicate, get_or-append as List·getD-append, get_or-eq_default as List·getD-eq-default}
+pub use lib.ListN.{length, take, drop, get_or, replicate, set, length-append, length-drop, length-replicate, length-set, length-take, drop_of_length-le, take-append-drop, replicate-append-replicate, get_or-append as List·get_d-append, get_or-eq_default as List·get_d-eq-default}
 pub use lib.Seq.{drop-append-add, drop-append-le, drop_at, drop-cons, drop-drop, drop-set-lt, get_or-append-add, get_or-drop, get_or-take, length-take-le, take-add, take_all, take-append-add, take-append-le, take-append_seam, take_at, take-length, take-nil, take-suc, take-suc-set, take-take, get_or-set_same, set_split, take-set-le}
 pub use borrow.Author.Rules.{rules}
 pub use borrow.Author.Tests.{eq-eqb, eqb-false, eqb-true, le-leb, le-ltb, leb-false, leb-true, lt-leb, lt-ltb, ltb-false, ltb-true, ne_eqb, not-false, not-true}

@@ -8,6 +8,6 @@ bit_of b zero = eqb (b % 2) 1
 bit_of b (suc k) = bit_of (b / 2) k
 
 -- the number with bit k as said, the others as before
-unfoldable pub withBit : ℕ → ℕ → Bool → ℕ
-withBit b zero on = 2 * (b / 2) + pick on 1 0
-withBit b (suc k) on = 2 * withBit (b / 2) k on + b % 2
+unfoldable pub with_bit : ℕ → ℕ → Bool → ℕ
+with_bit b zero on = 2 * (b / 2) + pick on 1 0
+with_bit b (suc k) on = 2 * with_bit (b / 2) k on + b % 2

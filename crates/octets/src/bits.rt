@@ -1,6 +1,6 @@
 // The eight bits of a byte, the lowest first: one told, one changed, and whether all lie below a place.
 ghost use Rattle.std.specs.Prelude.{◌≡◌, false, ◌<◌, ◌≤◌, ◌^◌, ltb};
-ghost use Rattle.octets.specs.Bits.{bit_of, withBit};
+ghost use Rattle.octets.specs.Bits.{bit_of, with_bit};
 
 pub fn bit_of(b: u8, k: usize) -> bool
     requires { k < 8 }
@@ -12,7 +12,7 @@ pub fn bit_of(b: u8, k: usize) -> bool
 // A bit that is set is 2 to the k of the byte.
 fn without_bit(b: u8, k: usize) -> u8
     requires { k < 8 }
-    ensures { result ≡ withBit b k false }
+    ensures { result ≡ with_bit b k false }
 {
     if bit_of(b, k) {
         return b - (1u8 << k);
@@ -23,7 +23,7 @@ fn without_bit(b: u8, k: usize) -> u8
 // The byte with bit k as said. The bit is taken off first, so there is room for it.
 pub fn with_bit(b: u8, k: usize, on: bool) -> u8
     requires { k < 8 }
-    ensures { result ≡ withBit b k on }
+    ensures { result ≡ with_bit b k on }
 {
     let off = without_bit(b, k);
     if on {

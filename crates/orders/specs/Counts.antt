@@ -1,5 +1,5 @@
 -- The three counts of an order: liable, executed and self-matched, and what is open of it (Table and outbox, Record).
-use Rattle.wire.specs.Shares.{total, ◌together◌, ◌less◌, ◌cutBy◌, ◌grownBy◌}
+use Rattle.wire.specs.Shares.{total, ◌together◌, ◌less◌, ◌cut_by◌, ◌grown_by◌}
 use Rattle.wire.specs.declared.shares.Total.{Total}
 use Rattle.wire.specs.declared.shares.Removed.{Removed}
 pub use Rattle.orders.specs.declared.counts.Counts.{Counts}
@@ -9,20 +9,20 @@ unfoldable pub gone : Counts → Total
 gone s = s.executed together s.matched
 
 -- Open = liable − executed − self-matched
-unfoldable pub openShares : Counts → Removed
-openShares s = s.liable less gone s
+unfoldable pub open_shares : Counts → Removed
+open_shares s = s.liable less gone s
 
-unfoldable pub withLiable : Counts → Total → Counts
-withLiable s t = record { liable = t; executed = s.executed; matched = s.matched }
+unfoldable pub with_liable : Counts → Total → Counts
+with_liable s t = record { liable = t; executed = s.executed; matched = s.matched }
 
 unfoldable pub cut : Counts → Removed → Counts
-cut s d = withLiable s (s.liable cutBy d)
+cut s d = with_liable s (s.liable cut_by d)
 
 unfoldable pub executing : Counts → Removed → Counts
-executing s d = record { liable = s.liable; executed = s.executed grownBy d; matched = s.matched }
+executing s d = record { liable = s.liable; executed = s.executed grown_by d; matched = s.matched }
 
-unfoldable pub selfMatching : Counts → Removed → Counts
-selfMatching s d = record { liable = s.liable; executed = s.executed; matched = s.matched grownBy d }
+unfoldable pub self_matching : Counts → Removed → Counts
+self_matching s d = record { liable = s.liable; executed = s.executed; matched = s.matched grown_by d }
 
-unfoldable pub newCounts : Total → Counts
-newCounts t = record { liable = t; executed = total 0; matched = total 0 }
+unfoldable pub new_counts : Total → Counts
+new_counts t = record { liable = t; executed = total 0; matched = total 0 }

@@ -9,12 +9,12 @@ bit_of Late = 1
 bit_of Pending = 2
 bit_of RejectSent = 4
 
-unfoldable pub hasFlag : ℕ → Flag → Bool
-hasFlag flags flag = eqb (flags / bit_of flag % 2) 1
+unfoldable pub has_flag : ℕ → Flag → Bool
+has_flag flags flag = eqb (flags / bit_of flag % 2) 1
 
 -- the other bits stay
-unfoldable pub setFlag : ℕ → Flag → ℕ
-setFlag flags flag = pick (hasFlag flags flag) flags (flags + bit_of flag)
+unfoldable pub set_flag : ℕ → Flag → ℕ
+set_flag flags flag = pick (has_flag flags flag) flags (flags + bit_of flag)
 
-unfoldable pub clearFlag : ℕ → Flag → ℕ
-clearFlag flags flag = pick (hasFlag flags flag) (flags - bit_of flag) flags
+unfoldable pub clear_flag : ℕ → Flag → ℕ
+clear_flag flags flag = pick (has_flag flags flag) (flags - bit_of flag) flags

@@ -1,46 +1,46 @@
 -- When a used record is sound, in its 80 bytes (Table and outbox, Sound).
 use Rattle.std.specs.Prelude.{ℕ, ◌+◌, Bool, false, ◌&&◌, ◌||◌, List, drop, leb, eqb}
-use Rattle.octets.specs.Choice.{pick, firstOf◌, ◌⇒◌⨾◌}
-use Rattle.octets.specs.Bytes.{allAre}
-use Rattle.wire.specs.Letters.{live, dead, rejectedToken}
-use Rattle.wire.specs.Limits.{tokenSize}
-use Rattle.wire.specs.Layout.{noBadPlace}
-use Rattle.wire.specs.Shares.{removed, ◌isBelow◌, ◌equals◌}
-use Rattle.orders.specs.Limits.{mostShares}
+use Rattle.octets.specs.Choice.{pick, first_of◌, ◌⇒◌⨾◌}
+use Rattle.octets.specs.Bytes.{all_are}
+use Rattle.wire.specs.Letters.{live, dead, rejected_token}
+use Rattle.wire.specs.Limits.{token_size}
+use Rattle.wire.specs.Layout.{no_bad_place}
+use Rattle.wire.specs.Shares.{removed, ◌is_below◌, ◌equals◌}
+use Rattle.orders.specs.Limits.{most_shares}
 use Rattle.orders.specs.Counts.{Counts, gone}
-use Rattle.orders.specs.Order.{Order, recordLayout, order_of, openOf}
+use Rattle.orders.specs.Order.{Order, record_layout, order_of, open_of}
 pub use Rattle.orders.specs.declared.sound.Verdict.{Verdict}
 
-unfoldable pub liableGood : Counts → Bool
-liableGood s = leb s.liable.0 mostShares
+unfoldable pub liable_good : Counts → Bool
+liable_good s = leb s.liable.0 most_shares
 
 -- L with executed + self-matched below liable, or D with them equal, liable at most 999,999; or R with bytes 15-79 zero
-unfoldable pub stateSound : List ℕ → Order → Bool
-stateSound s o =
+unfoldable pub state_sound : List ℕ → Order → Bool
+state_sound s o =
     first_of
-    eqb o.state live ⇒ gone o.shares isBelow o.shares.liable && liableGood o.shares
-    ⨾ eqb o.state dead ⇒ gone o.shares equals o.shares.liable && liableGood o.shares
-    ⨾ eqb o.state rejectedToken ⇒ allAre 0 (drop (1 + tokenSize) s)
+    eqb o.state live ⇒ gone o.shares is_below o.shares.liable && liable_good o.shares
+    ⨾ eqb o.state dead ⇒ gone o.shares equals o.shares.liable && liable_good o.shares
+    ⨾ eqb o.state rejected_token ⇒ all_are 0 (drop (1 + token_size) s)
     ⨾ false
 
 -- and a legal token
-unfoldable pub recordSound : List ℕ → Bool
-recordSound s = noBadPlace recordLayout s && stateSound s (order_of s)
+unfoldable pub record_sound : List ℕ → Bool
+record_sound s = no_bad_place record_layout s && state_sound s (order_of s)
 
 -- ---- what judging a record finds: whether it is sound, and what is open of it if it is (Ask 6)
 
 -- L or D beside the counts
-unfoldable pub countedSound : ℕ → Counts → Bool
-countedSound state s =
-    eqb state live && (gone s isBelow s.liable) && liableGood s || eqb state dead && (gone s equals s.liable) && liableGood s
+unfoldable pub counted_sound : ℕ → Counts → Bool
+counted_sound state s =
+    eqb state live && (gone s is_below s.liable) && liable_good s || eqb state dead && (gone s equals s.liable) && liable_good s
 
 unfoldable pub unsound : Verdict
 unsound = record { ok = false; shares = removed 0 }
 
-unfoldable pub stateVerdict : List ℕ → Verdict
-stateVerdict s =
-    let ok = stateSound s (order_of s) in
-    record { ok = ok; shares = pick ok (openOf (order_of s)) (removed 0) }
+unfoldable pub state_verdict : List ℕ → Verdict
+state_verdict s =
+    let ok = state_sound s (order_of s) in
+    record { ok = ok; shares = pick ok (open_of (order_of s)) (removed 0) }
 
-unfoldable pub verdictOn : List ℕ → Verdict
-verdictOn s = record { ok = recordSound s; shares = pick (recordSound s) (openOf (order_of s)) (removed 0) }
+unfoldable pub verdict_on : List ℕ → Verdict
+verdict_on s = record { ok = record_sound s; shares = pick (record_sound s) (open_of (order_of s)) (removed 0) }

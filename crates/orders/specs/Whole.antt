@@ -1,6 +1,6 @@
 -- What the types of the fields say of a value: numbers fit their widths, arrays are as long as they are declared. Code gives and takes no others.
 use Rattle.std.specs.Prelude.{◌≡◌, ℕ, ◌^◌, ◌<◌, length}
-use Rattle.wire.specs.Limits.{tokenSize}
+use Rattle.wire.specs.Limits.{token_size}
 use Rattle.orders.specs.Counts.{Counts}
 use Rattle.orders.specs.Order.{Kept, Terms, Details, Order}
 
@@ -35,12 +35,12 @@ pub record WholeDetails (d : Details) : Type 0 where
   pub kept : WholeKept d.kept
   pub terms : WholeTerms d.terms
   pub reference : U64 d.reference
-  pub previous : length d.previous ≡ tokenSize
+  pub previous : length d.previous ≡ token_size
   pub spare : U8 d.spare
 
 pub record WholeOrder (o : Order) : Type 0 where
   pub state : U8 o.state
-  pub token : length o.token ≡ tokenSize
+  pub token : length o.token ≡ token_size
   pub side : U8 o.side
   pub shares : WholeCounts o.shares
   pub flags : U8 o.flags

@@ -1,7 +1,7 @@
 // The three counts of an order, liable, executed and self-matched, and what is open of it.
 ghost use Rattle.std.specs.Prelude.{◌≡◌, ◌+◌, ◌≤◌};
-ghost use Rattle.wire.specs.Shares.{◌isBelow◌, ◌equals◌, ◌less◌};
-ghost use Rattle.orders.specs.Counts.{gone, openShares, withLiable, cut, executing, selfMatching, newCounts};
+ghost use Rattle.wire.specs.Shares.{◌is_below◌, ◌equals◌, ◌less◌};
+ghost use Rattle.orders.specs.Counts.{gone, open_shares, with_liable, cut, executing, self_matching, new_counts};
 
 use wire::shares::{Removed, Total};
 
@@ -21,7 +21,7 @@ fn gone_wide(s: Counts) -> u64
 }
 
 pub fn gone_is_below(s: Counts, t: Total) -> bool
-    ensures { result ≡ gone s isBelow t }
+    ensures { result ≡ gone s is_below t }
 {
     gone_wide(s) < t.0 as u64
 }
@@ -45,13 +45,13 @@ pub fn less_gone(t: Total, s: Counts) -> Removed
 }
 
 pub fn open_shares(s: Counts) -> Removed
-    ensures { result ≡ openShares s }
+    ensures { result ≡ open_shares s }
 {
     less_gone(s.liable, s)
 }
 
 pub fn with_liable(s: Counts, liable: Total) -> Counts
-    ensures { result ≡ withLiable s liable }
+    ensures { result ≡ with_liable s liable }
 {
     let executed = s.executed;
     let matched = s.matched;
@@ -86,7 +86,7 @@ pub fn executing(s: Counts, by: Removed) -> Counts
 
 pub fn self_matching(s: Counts, by: Removed) -> Counts
     requires { s.matched.0 + by.0 ≤ s.liable.0 }
-    ensures { result ≡ selfMatching s by }
+    ensures { result ≡ self_matching s by }
 {
     let liable = s.liable;
     let executed = s.executed;
@@ -101,7 +101,7 @@ pub fn self_matching(s: Counts, by: Removed) -> Counts
 
 // An order as entered: nothing is gone of it yet.
 pub fn new_counts(liable: Total) -> Counts
-    ensures { result ≡ newCounts liable }
+    ensures { result ≡ new_counts liable }
 {
     Counts {
         liable,

@@ -1,6 +1,6 @@
 // The flags of an order. Each is a bit of one byte, and no change of one touches another, the bits that nobody names among them.
 ghost use Rattle.std.specs.Prelude.{◌≡◌};
-ghost use Rattle.orders.specs.Flags.{bit_of, hasFlag, setFlag, clearFlag};
+ghost use Rattle.orders.specs.Flags.{bit_of, has_flag, set_flag, clear_flag};
 
 #[derive(Drop)]
 pub enum Flag {
@@ -20,13 +20,13 @@ fn bit_of(flag: Flag) -> u8
 }
 
 pub(crate) fn has_flag(flags: u8, flag: Flag) -> bool
-    ensures { result ≡ hasFlag flags flag }
+    ensures { result ≡ has_flag flags flag }
 {
     flags / bit_of(flag) % 2 == 1
 }
 
 pub(crate) fn set_flag(flags: u8, flag: Flag) -> u8
-    ensures { result ≡ setFlag flags flag }
+    ensures { result ≡ set_flag flags flag }
 {
     if has_flag(flags, flag) {
         return flags;
@@ -35,7 +35,7 @@ pub(crate) fn set_flag(flags: u8, flag: Flag) -> u8
 }
 
 pub(crate) fn clear_flag(flags: u8, flag: Flag) -> u8
-    ensures { result ≡ clearFlag flags flag }
+    ensures { result ≡ clear_flag flags flag }
 {
     if has_flag(flags, flag) {
         return flags - bit_of(flag);

@@ -1,6 +1,6 @@
 // An order: what a record of the table holds. Every one of its 80 bytes is in it, so that storing what was read changes nothing.
 ghost use Rattle.std.specs.Prelude.{◌≡◌};
-ghost use Rattle.orders.specs.Order.{no_order, isLive, isUsed, ◌is◌, marked, cleared, deadIfSpent, withSide, with_flags, withDetails, killed, rejectedOrder};
+ghost use Rattle.orders.specs.Order.{no_order, is_live, is_used, ◌is◌, marked, cleared, dead_if_spent, with_side, with_flags, with_details, killed, rejected_order};
 
 use crate::counts::{Counts, cut, new_counts, open_shares};
 use crate::flags::{Flag, clear_flag, has_flag, set_flag};
@@ -91,7 +91,7 @@ fn no_details() -> Details
 
 // What a Rejected Message leaves in the table, so that its token is used.
 pub fn rejected_order(token: [u8; 14]) -> Order
-    ensures { result ≡ rejectedOrder token }
+    ensures { result ≡ rejected_order token }
 {
     let shares = new_counts(Total(0));
     let details = no_details();
@@ -106,13 +106,13 @@ pub fn rejected_order(token: [u8; 14]) -> Order
 }
 
 pub fn is_live(o: Order) -> bool
-    ensures { result ≡ isLive o }
+    ensures { result ≡ is_live o }
 {
     o.state == b'L'
 }
 
 pub fn is_used(o: Order) -> bool
-    ensures { result ≡ isUsed o }
+    ensures { result ≡ is_used o }
 {
     o.state != 0
 }
@@ -153,7 +153,7 @@ pub fn cleared(o: Order, flag: Flag) -> Order
 }
 
 pub fn with_side(o: Order, side: u8) -> Order
-    ensures { result ≡ withSide o side }
+    ensures { result ≡ with_side o side }
 {
     let token = o.token;
     let shares = o.shares;
@@ -169,7 +169,7 @@ pub fn with_side(o: Order, side: u8) -> Order
 }
 
 pub fn with_details(o: Order, details: Details) -> Order
-    ensures { result ≡ withDetails o details }
+    ensures { result ≡ with_details o details }
 {
     let token = o.token;
     let shares = o.shares;
@@ -185,7 +185,7 @@ pub fn with_details(o: Order, details: Details) -> Order
 
 // The order with these counts. An order whose open reaches 0 is dead: every rule that changes counts does it here.
 pub fn dead_if_spent(o: Order, shares: Counts) -> Order
-    ensures { result ≡ deadIfSpent o shares }
+    ensures { result ≡ dead_if_spent o shares }
 {
     let token = o.token;
     let details = o.details;

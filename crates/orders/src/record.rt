@@ -1,8 +1,8 @@
 // An order in the 80 bytes of its record: read from them, and spelled as them.
 ghost use Rattle.std.specs.Prelude.{◌≡◌, length};
 ghost use Rattle.octets.specs.Bytes.{put};
-ghost use Rattle.orders.specs.Limits.{recordSize};
-ghost use Rattle.orders.specs.Order.{order_of, orderBytes};
+ghost use Rattle.orders.specs.Limits.{record_size};
+ghost use Rattle.orders.specs.Order.{order_of, order_bytes};
 ghost use Rattle.orders.specs.Runs.{opening, traded, letters, ending};
 
 use crate::counts::Counts;
@@ -17,7 +17,7 @@ use wire::shares::{Removed, Total};
 pub const RECORD_SIZE: usize = 80;
 
 pub(crate) fn counts_of(s: &[u8]) -> Counts
-    requires { length s.now ≡ recordSize }
+    requires { length s.now ≡ record_size }
     ensures { result ≡ (order_of s.now).shares }
 {
     let liable = Total(be32(s, 16));
@@ -31,7 +31,7 @@ pub(crate) fn counts_of(s: &[u8]) -> Counts
 }
 
 fn kept_of(s: &[u8]) -> Kept
-    requires { length s.now ≡ recordSize }
+    requires { length s.now ≡ record_size }
     ensures { result ≡ (order_of s.now).details.kept }
 {
     let stock = bytes8_at(s, 28);
@@ -45,7 +45,7 @@ fn kept_of(s: &[u8]) -> Kept
 }
 
 fn terms_of(s: &[u8]) -> Terms
-    requires { length s.now ≡ recordSize }
+    requires { length s.now ≡ record_size }
     ensures { result ≡ (order_of s.now).details.terms }
 {
     Terms {
@@ -58,7 +58,7 @@ fn terms_of(s: &[u8]) -> Terms
 }
 
 fn details_of(s: &[u8]) -> Details
-    requires { length s.now ≡ recordSize }
+    requires { length s.now ≡ record_size }
     ensures { result ≡ (order_of s.now).details }
 {
     let kept = kept_of(s);
@@ -74,7 +74,7 @@ fn details_of(s: &[u8]) -> Details
 }
 
 pub fn order_of(s: &[u8]) -> Order
-    requires { length s.now ≡ recordSize }
+    requires { length s.now ≡ record_size }
     ensures { result ≡ order_of s.now }
 {
     let token = bytes14_at(s, 1);
@@ -92,7 +92,7 @@ pub fn order_of(s: &[u8]) -> Order
 
 // The bytes are written in four runs, each from where the last one ended.
 fn put_opening(s: &mut [u8], o: Order)
-    requires { length s.old ≡ recordSize }
+    requires { length s.old ≡ record_size }
     ensures { (s.new ≡ put s.old 0 (opening o)) × (length (opening o) ≡ 28) }
 {
     let token = o.token;
@@ -106,7 +106,7 @@ fn put_opening(s: &mut [u8], o: Order)
 }
 
 fn put_traded(s: &mut [u8], details: Details)
-    requires { length s.old ≡ recordSize }
+    requires { length s.old ≡ record_size }
     ensures { (s.new ≡ put s.old 28 (traded details)) × (length (traded details) ≡ 20) }
 {
     let stock = details.kept.stock;
@@ -118,7 +118,7 @@ fn put_traded(s: &mut [u8], details: Details)
 }
 
 fn put_letters(s: &mut [u8], details: Details)
-    requires { length s.old ≡ recordSize }
+    requires { length s.old ≡ record_size }
     ensures { (s.new ≡ put s.old 48 (letters details)) × (length (letters details) ≡ 8) }
 {
     put_byte(s, 48, details.terms.display);
@@ -129,7 +129,7 @@ fn put_letters(s: &mut [u8], details: Details)
 }
 
 fn put_ending(s: &mut [u8], flags: u8, details: Details)
-    requires { length s.old ≡ recordSize }
+    requires { length s.old ≡ record_size }
     ensures { (s.new ≡ put s.old 56 (ending flags details)) × (length (ending flags details) ≡ 24) }
 {
     let previous = details.previous;
@@ -141,8 +141,8 @@ fn put_ending(s: &mut [u8], flags: u8, details: Details)
 
 // The order's 80 bytes, over what is there.
 pub fn put_order(s: &mut [u8], o: Order)
-    requires { length s.old ≡ recordSize }
-    ensures { (s.new ≡ orderBytes o) × (length (orderBytes o) ≡ recordSize) }
+    requires { length s.old ≡ record_size }
+    ensures { (s.new ≡ order_bytes o) × (length (order_bytes o) ≡ record_size) }
 {
     let details = o.details;
     put_opening(s, o);

@@ -1,11 +1,11 @@
 // When the 80 bytes of a used record are sound. A table is judged record by record at every step, so the tests of a token and of a state are
 // gathered without a branch. Between the two stands one, which in a sound table always goes the same way: measured, it is faster.
 ghost use Rattle.std.specs.Prelude.{◌≡◌, length};
-ghost use Rattle.wire.specs.Layout.{noBadPlace};
-ghost use Rattle.orders.specs.Limits.{recordSize};
+ghost use Rattle.wire.specs.Layout.{no_bad_place};
+ghost use Rattle.orders.specs.Limits.{record_size};
 ghost use Rattle.orders.specs.Counts.{Counts};
-ghost use Rattle.orders.specs.Order.{recordLayout};
-ghost use Rattle.orders.specs.Sound.{liableGood, countedSound, unsound, stateVerdict, verdictOn};
+ghost use Rattle.orders.specs.Order.{record_layout};
+ghost use Rattle.orders.specs.Sound.{liable_good, counted_sound, unsound, state_verdict, verdict_on};
 
 use crate::counts::{Counts, gone_equals, gone_is_below, open_shares};
 use crate::record::{RECORD_SIZE, counts_of};
@@ -28,8 +28,8 @@ const TOKEN_END: usize = 15;
 
 // A record's token is legal. The loop takes 32 bytes, of which those outside the token are free: in steps of 16 it is much the faster.
 fn token_legal(r: &[u8]) -> bool
-    requires { length r.now ≡ recordSize }
-    ensures { result ≡ noBadPlace recordLayout r.now }
+    requires { length r.now ≡ record_size }
+    ensures { result ≡ no_bad_place record_layout r.now }
 {
     let mut ok = true;
     let mut k: usize = 0;
@@ -41,14 +41,14 @@ fn token_legal(r: &[u8]) -> bool
 }
 
 fn liable_good(s: Counts) -> bool
-    ensures { result ≡ liableGood s }
+    ensures { result ≡ liable_good s }
 {
     s.liable.0 <= MOST_SHARES
 }
 
 // A live or a dead order's state beside its counts.
 fn counted_sound(state: u8, s: Counts) -> bool
-    ensures { result ≡ countedSound state s }
+    ensures { result ≡ counted_sound state s }
 {
     ((state == b'L') & gone_is_below(s, s.liable) & liable_good(s))
         | ((state == b'D') & gone_equals(s, s.liable) & liable_good(s))
@@ -64,8 +64,8 @@ fn unsound() -> Verdict
 }
 
 fn state_verdict(r: &[u8]) -> Verdict
-    requires { length r.now ≡ recordSize }
-    ensures { result ≡ stateVerdict r.now }
+    requires { length r.now ≡ record_size }
+    ensures { result ≡ state_verdict r.now }
 {
     let state = byte_at(r, 0);
     if state == b'R' {
@@ -86,8 +86,8 @@ fn state_verdict(r: &[u8]) -> Verdict
 
 // A record's counts are read once, for both.
 pub fn judge_record(r: &[u8]) -> Verdict
-    requires { length r.now ≡ recordSize }
-    ensures { result ≡ verdictOn r.now }
+    requires { length r.now ≡ record_size }
+    ensures { result ≡ verdict_on r.now }
 {
     if token_legal(r) {
         return state_verdict(r);

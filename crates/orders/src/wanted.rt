@@ -1,9 +1,9 @@
 // Which live orders an entry is about that names no token. A table is searched for the first of them, so the test is made on a record's bytes.
 ghost use Rattle.std.specs.Prelude.{◌≡◌, ◌&&◌, length};
 ghost use Rattle.octets.specs.Bytes.{same};
-ghost use Rattle.orders.specs.Limits.{recordSize};
+ghost use Rattle.orders.specs.Limits.{record_size};
 ghost use Rattle.orders.specs.Order.{order_of};
-ghost use Rattle.orders.specs.Wanted.{meetsBy, isWanted};
+ghost use Rattle.orders.specs.Wanted.{meets_by, is_wanted};
 
 use crate::flags::{Flag, has_flag};
 use crate::live::lives;
@@ -25,14 +25,14 @@ pub struct Wanted {
 }
 
 fn has_firm(r: &[u8], firm: [u8; 4]) -> bool
-    requires { length r.now ≡ recordSize }
+    requires { length r.now ≡ record_size }
     ensures { result ≡ same (order_of r.now).details.kept.firm firm }
 {
     same_at(r, 44, &firm)
 }
 
 fn has_stock(r: &[u8], symbol: [u8; 8]) -> bool
-    requires { length r.now ≡ recordSize }
+    requires { length r.now ≡ record_size }
     ensures { result ≡ same (order_of r.now).details.kept.stock symbol }
 {
     same_at(r, 28, &symbol)
@@ -40,7 +40,7 @@ fn has_stock(r: &[u8], symbol: [u8; 8]) -> bool
 
 // Most orders that are passed over are another firm's, so that is asked first.
 fn has_both(r: &[u8], firm: [u8; 4], symbol: [u8; 8]) -> bool
-    requires { length r.now ≡ recordSize }
+    requires { length r.now ≡ record_size }
     ensures { result ≡ (same (order_of r.now).details.kept.firm firm && same (order_of r.now).details.kept.stock symbol) }
 {
     if has_firm(r, firm) {
@@ -50,8 +50,8 @@ fn has_both(r: &[u8], firm: [u8; 4], symbol: [u8; 8]) -> bool
 }
 
 fn meets(r: &[u8], wanted: Wanted) -> bool
-    requires { length r.now ≡ recordSize }
-    ensures { result ≡ meetsBy wanted.by wanted (order_of r.now) }
+    requires { length r.now ≡ record_size }
+    ensures { result ≡ meets_by wanted.by wanted (order_of r.now) }
 {
     let by = wanted.by;
     let firm = wanted.firm;
@@ -64,8 +64,8 @@ fn meets(r: &[u8], wanted: Wanted) -> bool
 
 // Most records of a long day are dead, so that is asked first.
 pub fn is_wanted(r: &[u8], wanted: Wanted) -> bool
-    requires { length r.now ≡ recordSize }
-    ensures { result ≡ isWanted wanted (order_of r.now) }
+    requires { length r.now ≡ record_size }
+    ensures { result ≡ is_wanted wanted (order_of r.now) }
 {
     if lives(r) {
         return !has_flag(byte_at(r, 64), Flag::Late) & meets(r, wanted);

@@ -1,8 +1,8 @@
 -- The twelve messages that the host sends as values: each struct from the bytes of its layout, and back, and
 -- what its reader gives.
 use Rattle.std.specs.Prelude.{ℕ, List}
-use Rattle.wire.specs.Layout.{Values, ◌&◌, bothValues, FromFields, grouped, reading, spell}
-use Rattle.wire.specs.Messages.{systemEvent, stated, acceptedRest, accepted, replacedRest, replaced, canceled, aiqCancelled, executed, brokenTrade, rejected, cancelPending, cancelReject, priorityUpdate, modified, readAnswer, legalOrZeros}
+use Rattle.wire.specs.Layout.{Values, ◌&◌, both_values, FromFields, grouped, reading, spell}
+use Rattle.wire.specs.Messages.{system_event, stated, accepted_rest, accepted, replaced_rest, replaced, canceled, aiq_cancelled, executed, broken_trade, rejected, cancel_pending, cancel_reject, priority_update, modified, read_answer, legal_or_zeros}
 use Rattle.wire.specs.Shares.{removed}
 pub use Rattle.outbound.specs.declared.system_event.SystemEvent.{SystemEvent}
 pub use Rattle.outbound.specs.declared.system_event.SystemEventRead.{SystemEventRead}
@@ -32,28 +32,28 @@ pub use Rattle.outbound.specs.declared.modified.ModifiedRead.{ModifiedRead}
 
 -- ---- System Event
 
-abbrev pub systemEventMade : FromFields systemEvent.fields SystemEvent
-systemEventMade stamp event = record {
+abbrev pub system_event_made : FromFields system_event.fields SystemEvent
+system_event_made stamp event = record {
   stamp = stamp;
   event = event;
 }
 
-unfoldable pub systemEventOf : List ℕ → SystemEvent
-systemEventOf s = reading systemEvent.fields s systemEventMade
+unfoldable pub system_event_of : List ℕ → SystemEvent
+system_event_of s = reading system_event.fields s system_event_made
 
-abbrev pub systemEventValues : SystemEvent → Values systemEvent.fields
-systemEventValues m = m.stamp & m.event & tt
+abbrev pub system_event_values : SystemEvent → Values system_event.fields
+system_event_values m = m.stamp & m.event & tt
 
-unfoldable pub systemEventBytes : SystemEvent → List ℕ
-systemEventBytes m = spell systemEvent (systemEventValues m)
+unfoldable pub system_event_bytes : SystemEvent → List ℕ
+system_event_bytes m = spell system_event (system_event_values m)
 
-abbrev pub readSystemEvent : List ℕ → SystemEventRead
-readSystemEvent s = record { answer = readAnswer systemEvent s; body = systemEventOf (legalOrZeros systemEvent s) }
+abbrev pub read_system_event : List ℕ → SystemEventRead
+read_system_event s = record { answer = read_answer system_event s; body = system_event_of (legal_or_zeros system_event s) }
 
 -- ---- What Accepted and Replaced both state
 
-abbrev pub statedMade : FromFields stated Stated
-statedMade side shares stock price time firm display reference capacity sweep minimum cross state = record {
+abbrev pub stated_made : FromFields stated Stated
+stated_made side shares stock price time firm display reference capacity sweep minimum cross state = record {
   side = side;
   shares = removed shares;
   stock = stock;
@@ -69,77 +69,77 @@ statedMade side shares stock price time firm display reference capacity sweep mi
   state = state;
 }
 
-unfoldable pub statedOf : List ℕ → Stated
-statedOf s = reading stated s statedMade
+unfoldable pub stated_of : List ℕ → Stated
+stated_of s = reading stated s stated_made
 
-abbrev pub statedValues : Stated → Values stated
-statedValues o =
+abbrev pub stated_values : Stated → Values stated
+stated_values o =
     o.side & o.shares.0 & o.stock & o.price & o.time & o.firm & o.display & o.reference & o.capacity &
     o.sweep & o.minimum.0 & o.cross & o.state & tt
 
 -- ---- Accepted
 
-abbrev pub acceptedMade : FromFields accepted.fields Accepted
-acceptedMade stamp token =
-    grouped Accepted stated acceptedRest statedMade (λ order weight. record { stamp = stamp; token = token; order = order; weight = weight })
+abbrev pub accepted_made : FromFields accepted.fields Accepted
+accepted_made stamp token =
+    grouped Accepted stated accepted_rest stated_made (λ order weight. record { stamp = stamp; token = token; order = order; weight = weight })
 
-unfoldable pub acceptedOf : List ℕ → Accepted
-acceptedOf s = reading accepted.fields s acceptedMade
+unfoldable pub accepted_of : List ℕ → Accepted
+accepted_of s = reading accepted.fields s accepted_made
 
-abbrev pub acceptedValues : Accepted → Values accepted.fields
-acceptedValues m = m.stamp & m.token & bothValues stated acceptedRest (statedValues m.order) (m.weight & tt)
+abbrev pub accepted_values : Accepted → Values accepted.fields
+accepted_values m = m.stamp & m.token & both_values stated accepted_rest (stated_values m.order) (m.weight & tt)
 
-unfoldable pub acceptedBytes : Accepted → List ℕ
-acceptedBytes m = spell accepted (acceptedValues m)
+unfoldable pub accepted_bytes : Accepted → List ℕ
+accepted_bytes m = spell accepted (accepted_values m)
 
-abbrev pub readAccepted : List ℕ → AcceptedRead
-readAccepted s = record { answer = readAnswer accepted s; body = acceptedOf (legalOrZeros accepted s) }
+abbrev pub read_accepted : List ℕ → AcceptedRead
+read_accepted s = record { answer = read_answer accepted s; body = accepted_of (legal_or_zeros accepted s) }
 
 -- ---- Replaced
 
-abbrev pub replacedMade : FromFields replaced.fields Replaced
-replacedMade stamp token =
-    grouped Replaced stated replacedRest statedMade
+abbrev pub replaced_made : FromFields replaced.fields Replaced
+replaced_made stamp token =
+    grouped Replaced stated replaced_rest stated_made
     (λ order previous weight. record { stamp = stamp; token = token; order = order; previous = previous; weight = weight })
 
-unfoldable pub replacedOf : List ℕ → Replaced
-replacedOf s = reading replaced.fields s replacedMade
+unfoldable pub replaced_of : List ℕ → Replaced
+replaced_of s = reading replaced.fields s replaced_made
 
-abbrev pub replacedValues : Replaced → Values replaced.fields
-replacedValues m = m.stamp & m.token & bothValues stated replacedRest (statedValues m.order) (m.previous & m.weight & tt)
+abbrev pub replaced_values : Replaced → Values replaced.fields
+replaced_values m = m.stamp & m.token & both_values stated replaced_rest (stated_values m.order) (m.previous & m.weight & tt)
 
-unfoldable pub replacedBytes : Replaced → List ℕ
-replacedBytes m = spell replaced (replacedValues m)
+unfoldable pub replaced_bytes : Replaced → List ℕ
+replaced_bytes m = spell replaced (replaced_values m)
 
-abbrev pub readReplaced : List ℕ → ReplacedRead
-readReplaced s = record { answer = readAnswer replaced s; body = replacedOf (legalOrZeros replaced s) }
+abbrev pub read_replaced : List ℕ → ReplacedRead
+read_replaced s = record { answer = read_answer replaced s; body = replaced_of (legal_or_zeros replaced s) }
 
 -- ---- Canceled
 
-abbrev pub canceledMade : FromFields canceled.fields Canceled
-canceledMade stamp token decrement reason = record {
+abbrev pub canceled_made : FromFields canceled.fields Canceled
+canceled_made stamp token decrement reason = record {
   stamp = stamp;
   token = token;
   decrement = removed decrement;
   reason = reason;
 }
 
-unfoldable pub canceledOf : List ℕ → Canceled
-canceledOf s = reading canceled.fields s canceledMade
+unfoldable pub canceled_of : List ℕ → Canceled
+canceled_of s = reading canceled.fields s canceled_made
 
-abbrev pub canceledValues : Canceled → Values canceled.fields
-canceledValues m = m.stamp & m.token & m.decrement.0 & m.reason & tt
+abbrev pub canceled_values : Canceled → Values canceled.fields
+canceled_values m = m.stamp & m.token & m.decrement.0 & m.reason & tt
 
-unfoldable pub canceledBytes : Canceled → List ℕ
-canceledBytes m = spell canceled (canceledValues m)
+unfoldable pub canceled_bytes : Canceled → List ℕ
+canceled_bytes m = spell canceled (canceled_values m)
 
-abbrev pub readCanceled : List ℕ → CanceledRead
-readCanceled s = record { answer = readAnswer canceled s; body = canceledOf (legalOrZeros canceled s) }
+abbrev pub read_canceled : List ℕ → CanceledRead
+read_canceled s = record { answer = read_answer canceled s; body = canceled_of (legal_or_zeros canceled s) }
 
 -- ---- Aiq Cancelled
 
-abbrev pub aiqCancelledMade : FromFields aiqCancelled.fields AiqCancelled
-aiqCancelledMade stamp token decrement reason prevented price flag = record {
+abbrev pub aiq_cancelled_made : FromFields aiq_cancelled.fields AiqCancelled
+aiq_cancelled_made stamp token decrement reason prevented price flag = record {
   stamp = stamp;
   token = token;
   decrement = removed decrement;
@@ -149,129 +149,129 @@ aiqCancelledMade stamp token decrement reason prevented price flag = record {
   flag = flag;
 }
 
-unfoldable pub aiqCancelledOf : List ℕ → AiqCancelled
-aiqCancelledOf s = reading aiqCancelled.fields s aiqCancelledMade
+unfoldable pub aiq_cancelled_of : List ℕ → AiqCancelled
+aiq_cancelled_of s = reading aiq_cancelled.fields s aiq_cancelled_made
 
-abbrev pub aiqCancelledValues : AiqCancelled → Values aiqCancelled.fields
-aiqCancelledValues m = m.stamp & m.token & m.decrement.0 & m.reason & m.prevented.0 & m.price & m.flag & tt
+abbrev pub aiq_cancelled_values : AiqCancelled → Values aiq_cancelled.fields
+aiq_cancelled_values m = m.stamp & m.token & m.decrement.0 & m.reason & m.prevented.0 & m.price & m.flag & tt
 
-unfoldable pub aiqCancelledBytes : AiqCancelled → List ℕ
-aiqCancelledBytes m = spell aiqCancelled (aiqCancelledValues m)
+unfoldable pub aiq_cancelled_bytes : AiqCancelled → List ℕ
+aiq_cancelled_bytes m = spell aiq_cancelled (aiq_cancelled_values m)
 
-abbrev pub readAiqCancelled : List ℕ → AiqCancelledRead
-readAiqCancelled s = record { answer = readAnswer aiqCancelled s; body = aiqCancelledOf (legalOrZeros aiqCancelled s) }
+abbrev pub read_aiq_cancelled : List ℕ → AiqCancelledRead
+read_aiq_cancelled s = record { answer = read_answer aiq_cancelled s; body = aiq_cancelled_of (legal_or_zeros aiq_cancelled s) }
 
 -- ---- Executed
 
-abbrev pub executedMade : FromFields executed.fields Executed
-executedMade stamp token shares price flag matchNumber = record {
+abbrev pub executed_made : FromFields executed.fields Executed
+executed_made stamp token shares price flag match_number = record {
   stamp = stamp;
   token = token;
   shares = removed shares;
   price = price;
   flag = flag;
-  match_number = matchNumber;
+  match_number = match_number;
 }
 
-unfoldable pub executedOf : List ℕ → Executed
-executedOf s = reading executed.fields s executedMade
+unfoldable pub executed_of : List ℕ → Executed
+executed_of s = reading executed.fields s executed_made
 
-abbrev pub executedValues : Executed → Values executed.fields
-executedValues m = m.stamp & m.token & m.shares.0 & m.price & m.flag & m.match_number & tt
+abbrev pub executed_values : Executed → Values executed.fields
+executed_values m = m.stamp & m.token & m.shares.0 & m.price & m.flag & m.match_number & tt
 
-unfoldable pub executedBytes : Executed → List ℕ
-executedBytes m = spell executed (executedValues m)
+unfoldable pub executed_bytes : Executed → List ℕ
+executed_bytes m = spell executed (executed_values m)
 
-abbrev pub readExecuted : List ℕ → ExecutedRead
-readExecuted s = record { answer = readAnswer executed s; body = executedOf (legalOrZeros executed s) }
+abbrev pub read_executed : List ℕ → ExecutedRead
+read_executed s = record { answer = read_answer executed s; body = executed_of (legal_or_zeros executed s) }
 
 -- ---- Broken Trade
 
-abbrev pub brokenTradeMade : FromFields brokenTrade.fields BrokenTrade
-brokenTradeMade stamp token matchNumber reason = record {
+abbrev pub broken_trade_made : FromFields broken_trade.fields BrokenTrade
+broken_trade_made stamp token match_number reason = record {
   stamp = stamp;
   token = token;
-  match_number = matchNumber;
+  match_number = match_number;
   reason = reason;
 }
 
-unfoldable pub brokenTradeOf : List ℕ → BrokenTrade
-brokenTradeOf s = reading brokenTrade.fields s brokenTradeMade
+unfoldable pub broken_trade_of : List ℕ → BrokenTrade
+broken_trade_of s = reading broken_trade.fields s broken_trade_made
 
-abbrev pub brokenTradeValues : BrokenTrade → Values brokenTrade.fields
-brokenTradeValues m = m.stamp & m.token & m.match_number & m.reason & tt
+abbrev pub broken_trade_values : BrokenTrade → Values broken_trade.fields
+broken_trade_values m = m.stamp & m.token & m.match_number & m.reason & tt
 
-unfoldable pub brokenTradeBytes : BrokenTrade → List ℕ
-brokenTradeBytes m = spell brokenTrade (brokenTradeValues m)
+unfoldable pub broken_trade_bytes : BrokenTrade → List ℕ
+broken_trade_bytes m = spell broken_trade (broken_trade_values m)
 
-abbrev pub readBrokenTrade : List ℕ → BrokenTradeRead
-readBrokenTrade s = record { answer = readAnswer brokenTrade s; body = brokenTradeOf (legalOrZeros brokenTrade s) }
+abbrev pub read_broken_trade : List ℕ → BrokenTradeRead
+read_broken_trade s = record { answer = read_answer broken_trade s; body = broken_trade_of (legal_or_zeros broken_trade s) }
 
 -- ---- Rejected
 
-abbrev pub rejectedMade : FromFields rejected.fields Rejected
-rejectedMade stamp token reason = record {
+abbrev pub rejected_made : FromFields rejected.fields Rejected
+rejected_made stamp token reason = record {
   stamp = stamp;
   token = token;
   reason = reason;
 }
 
-unfoldable pub rejectedOf : List ℕ → Rejected
-rejectedOf s = reading rejected.fields s rejectedMade
+unfoldable pub rejected_of : List ℕ → Rejected
+rejected_of s = reading rejected.fields s rejected_made
 
-abbrev pub rejectedValues : Rejected → Values rejected.fields
-rejectedValues m = m.stamp & m.token & m.reason & tt
+abbrev pub rejected_values : Rejected → Values rejected.fields
+rejected_values m = m.stamp & m.token & m.reason & tt
 
-unfoldable pub rejectedBytes : Rejected → List ℕ
-rejectedBytes m = spell rejected (rejectedValues m)
+unfoldable pub rejected_bytes : Rejected → List ℕ
+rejected_bytes m = spell rejected (rejected_values m)
 
-abbrev pub readRejected : List ℕ → RejectedRead
-readRejected s = record { answer = readAnswer rejected s; body = rejectedOf (legalOrZeros rejected s) }
+abbrev pub read_rejected : List ℕ → RejectedRead
+read_rejected s = record { answer = read_answer rejected s; body = rejected_of (legal_or_zeros rejected s) }
 
 -- ---- Cancel Pending
 
-abbrev pub cancelPendingMade : FromFields cancelPending.fields CancelPending
-cancelPendingMade stamp token = record {
+abbrev pub cancel_pending_made : FromFields cancel_pending.fields CancelPending
+cancel_pending_made stamp token = record {
   stamp = stamp;
   token = token;
 }
 
-unfoldable pub cancelPendingOf : List ℕ → CancelPending
-cancelPendingOf s = reading cancelPending.fields s cancelPendingMade
+unfoldable pub cancel_pending_of : List ℕ → CancelPending
+cancel_pending_of s = reading cancel_pending.fields s cancel_pending_made
 
-abbrev pub cancelPendingValues : CancelPending → Values cancelPending.fields
-cancelPendingValues m = m.stamp & m.token & tt
+abbrev pub cancel_pending_values : CancelPending → Values cancel_pending.fields
+cancel_pending_values m = m.stamp & m.token & tt
 
-unfoldable pub cancelPendingBytes : CancelPending → List ℕ
-cancelPendingBytes m = spell cancelPending (cancelPendingValues m)
+unfoldable pub cancel_pending_bytes : CancelPending → List ℕ
+cancel_pending_bytes m = spell cancel_pending (cancel_pending_values m)
 
-abbrev pub readCancelPending : List ℕ → CancelPendingRead
-readCancelPending s = record { answer = readAnswer cancelPending s; body = cancelPendingOf (legalOrZeros cancelPending s) }
+abbrev pub read_cancel_pending : List ℕ → CancelPendingRead
+read_cancel_pending s = record { answer = read_answer cancel_pending s; body = cancel_pending_of (legal_or_zeros cancel_pending s) }
 
 -- ---- Cancel Reject
 
-abbrev pub cancelRejectMade : FromFields cancelReject.fields CancelReject
-cancelRejectMade stamp token = record {
+abbrev pub cancel_reject_made : FromFields cancel_reject.fields CancelReject
+cancel_reject_made stamp token = record {
   stamp = stamp;
   token = token;
 }
 
-unfoldable pub cancelRejectOf : List ℕ → CancelReject
-cancelRejectOf s = reading cancelReject.fields s cancelRejectMade
+unfoldable pub cancel_reject_of : List ℕ → CancelReject
+cancel_reject_of s = reading cancel_reject.fields s cancel_reject_made
 
-abbrev pub cancelRejectValues : CancelReject → Values cancelReject.fields
-cancelRejectValues m = m.stamp & m.token & tt
+abbrev pub cancel_reject_values : CancelReject → Values cancel_reject.fields
+cancel_reject_values m = m.stamp & m.token & tt
 
-unfoldable pub cancelRejectBytes : CancelReject → List ℕ
-cancelRejectBytes m = spell cancelReject (cancelRejectValues m)
+unfoldable pub cancel_reject_bytes : CancelReject → List ℕ
+cancel_reject_bytes m = spell cancel_reject (cancel_reject_values m)
 
-abbrev pub readCancelReject : List ℕ → CancelRejectRead
-readCancelReject s = record { answer = readAnswer cancelReject s; body = cancelRejectOf (legalOrZeros cancelReject s) }
+abbrev pub read_cancel_reject : List ℕ → CancelRejectRead
+read_cancel_reject s = record { answer = read_answer cancel_reject s; body = cancel_reject_of (legal_or_zeros cancel_reject s) }
 
 -- ---- Priority Update
 
-abbrev pub priorityUpdateMade : FromFields priorityUpdate.fields PriorityUpdate
-priorityUpdateMade stamp token price display reference = record {
+abbrev pub priority_update_made : FromFields priority_update.fields PriorityUpdate
+priority_update_made stamp token price display reference = record {
   stamp = stamp;
   token = token;
   price = price;
@@ -279,36 +279,36 @@ priorityUpdateMade stamp token price display reference = record {
   reference = reference;
 }
 
-unfoldable pub priorityUpdateOf : List ℕ → PriorityUpdate
-priorityUpdateOf s = reading priorityUpdate.fields s priorityUpdateMade
+unfoldable pub priority_update_of : List ℕ → PriorityUpdate
+priority_update_of s = reading priority_update.fields s priority_update_made
 
-abbrev pub priorityUpdateValues : PriorityUpdate → Values priorityUpdate.fields
-priorityUpdateValues m = m.stamp & m.token & m.price & m.display & m.reference & tt
+abbrev pub priority_update_values : PriorityUpdate → Values priority_update.fields
+priority_update_values m = m.stamp & m.token & m.price & m.display & m.reference & tt
 
-unfoldable pub priorityUpdateBytes : PriorityUpdate → List ℕ
-priorityUpdateBytes m = spell priorityUpdate (priorityUpdateValues m)
+unfoldable pub priority_update_bytes : PriorityUpdate → List ℕ
+priority_update_bytes m = spell priority_update (priority_update_values m)
 
-abbrev pub readPriorityUpdate : List ℕ → PriorityUpdateRead
-readPriorityUpdate s = record { answer = readAnswer priorityUpdate s; body = priorityUpdateOf (legalOrZeros priorityUpdate s) }
+abbrev pub read_priority_update : List ℕ → PriorityUpdateRead
+read_priority_update s = record { answer = read_answer priority_update s; body = priority_update_of (legal_or_zeros priority_update s) }
 
 -- ---- Modified
 
-abbrev pub modifiedMade : FromFields modified.fields Modified
-modifiedMade stamp token side shares = record {
+abbrev pub modified_made : FromFields modified.fields Modified
+modified_made stamp token side shares = record {
   stamp = stamp;
   token = token;
   side = side;
   shares = removed shares;
 }
 
-unfoldable pub modifiedOf : List ℕ → Modified
-modifiedOf s = reading modified.fields s modifiedMade
+unfoldable pub modified_of : List ℕ → Modified
+modified_of s = reading modified.fields s modified_made
 
-abbrev pub modifiedValues : Modified → Values modified.fields
-modifiedValues m = m.stamp & m.token & m.side & m.shares.0 & tt
+abbrev pub modified_values : Modified → Values modified.fields
+modified_values m = m.stamp & m.token & m.side & m.shares.0 & tt
 
-unfoldable pub modifiedBytes : Modified → List ℕ
-modifiedBytes m = spell modified (modifiedValues m)
+unfoldable pub modified_bytes : Modified → List ℕ
+modified_bytes m = spell modified (modified_values m)
 
-abbrev pub readModified : List ℕ → ModifiedRead
-readModified s = record { answer = readAnswer modified s; body = modifiedOf (legalOrZeros modified s) }
+abbrev pub read_modified : List ℕ → ModifiedRead
+read_modified s = record { answer = read_answer modified s; body = modified_of (legal_or_zeros modified s) }

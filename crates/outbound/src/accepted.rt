@@ -1,7 +1,7 @@
 // Accepted (A, 66 bytes): an order was taken, with what is open of it.
 ghost use Rattle.std.specs.Prelude.{◌≡◌, length};
-ghost use Rattle.wire.specs.Messages.{accepted, inEighty, writeAnswer, bufferAfter};
-ghost use Rattle.outbound.specs.Outbound.{acceptedBytes, readAccepted};
+ghost use Rattle.wire.specs.Messages.{accepted, in_eighty, write_answer, buffer_after};
+ghost use Rattle.outbound.specs.Outbound.{accepted_bytes, read_accepted};
 
 use crate::head::headed;
 use crate::stated::{Stated, parse_stated, put_stated};
@@ -26,7 +26,7 @@ pub struct AcceptedRead {
 }
 
 pub fn read_accepted(s: &[u8]) -> AcceptedRead
-    ensures { result ≡ readAccepted s.now }
+    ensures { result ≡ read_accepted s.now }
 {
     let answer = judge(s, ACCEPTED);
     let zeros = [0u8; 66];
@@ -41,7 +41,7 @@ pub fn read_accepted(s: &[u8]) -> AcceptedRead
 }
 
 pub fn spell_accepted(m: Accepted) -> [u8; 80]
-    ensures { (result ≡ inEighty (acceptedBytes m)) × (length (acceptedBytes m) ≡ 66) }
+    ensures { (result ≡ in_eighty (accepted_bytes m)) × (length (accepted_bytes m) ≡ 66) }
 {
     let token = m.token;
     let order = m.order;
@@ -52,7 +52,7 @@ pub fn spell_accepted(m: Accepted) -> [u8; 80]
 }
 
 pub fn write_accepted(buffer: &mut [u8], m: Accepted) -> Answer
-    ensures { (result ≡ writeAnswer accepted (acceptedBytes m) buffer.old) × (buffer.new ≡ bufferAfter accepted (acceptedBytes m) buffer.old) }
+    ensures { (result ≡ write_answer accepted (accepted_bytes m) buffer.old) × (buffer.new ≡ buffer_after accepted (accepted_bytes m) buffer.old) }
 {
     send(buffer, spell_accepted(m), ACCEPTED)
 }

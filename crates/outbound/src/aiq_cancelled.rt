@@ -1,7 +1,7 @@
 // Aiq Cancelled (D, 37 bytes): shares were taken off an order to prevent a self match.
 ghost use Rattle.std.specs.Prelude.{◌≡◌, length};
-ghost use Rattle.wire.specs.Messages.{aiqCancelled, inEighty, writeAnswer, bufferAfter};
-ghost use Rattle.outbound.specs.Outbound.{aiqCancelledBytes, readAiqCancelled};
+ghost use Rattle.wire.specs.Messages.{aiq_cancelled, in_eighty, write_answer, buffer_after};
+ghost use Rattle.outbound.specs.Outbound.{aiq_cancelled_bytes, read_aiq_cancelled};
 
 use crate::head::headed;
 use answers::Answer;
@@ -29,7 +29,7 @@ pub struct AiqCancelledRead {
 }
 
 pub fn read_aiq_cancelled(s: &[u8]) -> AiqCancelledRead
-    ensures { result ≡ readAiqCancelled s.now }
+    ensures { result ≡ read_aiq_cancelled s.now }
 {
     let answer = judge(s, AIQ_CANCELLED);
     let zeros = [0u8; 37];
@@ -47,7 +47,7 @@ pub fn read_aiq_cancelled(s: &[u8]) -> AiqCancelledRead
 }
 
 pub fn spell_aiq_cancelled(m: AiqCancelled) -> [u8; 80]
-    ensures { (result ≡ inEighty (aiqCancelledBytes m)) × (length (aiqCancelledBytes m) ≡ 37) }
+    ensures { (result ≡ in_eighty (aiq_cancelled_bytes m)) × (length (aiq_cancelled_bytes m) ≡ 37) }
 {
     let token = m.token;
     let mut t = headed(b'D', m.stamp, token);
@@ -60,7 +60,7 @@ pub fn spell_aiq_cancelled(m: AiqCancelled) -> [u8; 80]
 }
 
 pub fn write_aiq_cancelled(buffer: &mut [u8], m: AiqCancelled) -> Answer
-    ensures { (result ≡ writeAnswer aiqCancelled (aiqCancelledBytes m) buffer.old) × (buffer.new ≡ bufferAfter aiqCancelled (aiqCancelledBytes m) buffer.old) }
+    ensures { (result ≡ write_answer aiq_cancelled (aiq_cancelled_bytes m) buffer.old) × (buffer.new ≡ buffer_after aiq_cancelled (aiq_cancelled_bytes m) buffer.old) }
 {
     send(buffer, spell_aiq_cancelled(m), AIQ_CANCELLED)
 }

@@ -1,7 +1,7 @@
 // Broken Trade (B, 32 bytes): an execution was broken.
 ghost use Rattle.std.specs.Prelude.{◌≡◌, length};
-ghost use Rattle.wire.specs.Messages.{brokenTrade, inEighty, writeAnswer, bufferAfter};
-ghost use Rattle.outbound.specs.Outbound.{brokenTradeBytes, readBrokenTrade};
+ghost use Rattle.wire.specs.Messages.{broken_trade, in_eighty, write_answer, buffer_after};
+ghost use Rattle.outbound.specs.Outbound.{broken_trade_bytes, read_broken_trade};
 
 use crate::head::headed;
 use answers::Answer;
@@ -25,7 +25,7 @@ pub struct BrokenTradeRead {
 }
 
 pub fn read_broken_trade(s: &[u8]) -> BrokenTradeRead
-    ensures { result ≡ readBrokenTrade s.now }
+    ensures { result ≡ read_broken_trade s.now }
 {
     let answer = judge(s, BROKEN_TRADE);
     let zeros = [0u8; 32];
@@ -40,7 +40,7 @@ pub fn read_broken_trade(s: &[u8]) -> BrokenTradeRead
 }
 
 fn spell_broken_trade(m: BrokenTrade) -> [u8; 80]
-    ensures { (result ≡ inEighty (brokenTradeBytes m)) × (length (brokenTradeBytes m) ≡ 32) }
+    ensures { (result ≡ in_eighty (broken_trade_bytes m)) × (length (broken_trade_bytes m) ≡ 32) }
 {
     let token = m.token;
     let mut t = headed(b'B', m.stamp, token);
@@ -50,7 +50,7 @@ fn spell_broken_trade(m: BrokenTrade) -> [u8; 80]
 }
 
 pub fn write_broken_trade(buffer: &mut [u8], m: BrokenTrade) -> Answer
-    ensures { (result ≡ writeAnswer brokenTrade (brokenTradeBytes m) buffer.old) × (buffer.new ≡ bufferAfter brokenTrade (brokenTradeBytes m) buffer.old) }
+    ensures { (result ≡ write_answer broken_trade (broken_trade_bytes m) buffer.old) × (buffer.new ≡ buffer_after broken_trade (broken_trade_bytes m) buffer.old) }
 {
     send(buffer, spell_broken_trade(m), BROKEN_TRADE)
 }

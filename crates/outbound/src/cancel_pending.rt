@@ -1,7 +1,7 @@
 // Cancel Pending (P, 23 bytes): a cancel waits for the cross.
 ghost use Rattle.std.specs.Prelude.{◌≡◌, length};
-ghost use Rattle.wire.specs.Messages.{cancelPending, inEighty, writeAnswer, bufferAfter};
-ghost use Rattle.outbound.specs.Outbound.{cancelPendingBytes, readCancelPending};
+ghost use Rattle.wire.specs.Messages.{cancel_pending, in_eighty, write_answer, buffer_after};
+ghost use Rattle.outbound.specs.Outbound.{cancel_pending_bytes, read_cancel_pending};
 
 use crate::head::headed;
 use answers::Answer;
@@ -22,7 +22,7 @@ pub struct CancelPendingRead {
 }
 
 pub fn read_cancel_pending(s: &[u8]) -> CancelPendingRead
-    ensures { result ≡ readCancelPending s.now }
+    ensures { result ≡ read_cancel_pending s.now }
 {
     let answer = judge(s, CANCEL_PENDING);
     let zeros = [0u8; 23];
@@ -35,14 +35,14 @@ pub fn read_cancel_pending(s: &[u8]) -> CancelPendingRead
 }
 
 pub fn spell_cancel_pending(m: CancelPending) -> [u8; 80]
-    ensures { (result ≡ inEighty (cancelPendingBytes m)) × (length (cancelPendingBytes m) ≡ 23) }
+    ensures { (result ≡ in_eighty (cancel_pending_bytes m)) × (length (cancel_pending_bytes m) ≡ 23) }
 {
     let token = m.token;
     headed(b'P', m.stamp, token)
 }
 
 pub fn write_cancel_pending(buffer: &mut [u8], m: CancelPending) -> Answer
-    ensures { (result ≡ writeAnswer cancelPending (cancelPendingBytes m) buffer.old) × (buffer.new ≡ bufferAfter cancelPending (cancelPendingBytes m) buffer.old) }
+    ensures { (result ≡ write_answer cancel_pending (cancel_pending_bytes m) buffer.old) × (buffer.new ≡ buffer_after cancel_pending (cancel_pending_bytes m) buffer.old) }
 {
     send(buffer, spell_cancel_pending(m), CANCEL_PENDING)
 }

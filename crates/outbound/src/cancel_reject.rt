@@ -1,7 +1,7 @@
 // Cancel Reject (I, 23 bytes): a cancel came too late for the cross.
 ghost use Rattle.std.specs.Prelude.{◌≡◌, length};
-ghost use Rattle.wire.specs.Messages.{cancelReject, inEighty, writeAnswer, bufferAfter};
-ghost use Rattle.outbound.specs.Outbound.{cancelRejectBytes, readCancelReject};
+ghost use Rattle.wire.specs.Messages.{cancel_reject, in_eighty, write_answer, buffer_after};
+ghost use Rattle.outbound.specs.Outbound.{cancel_reject_bytes, read_cancel_reject};
 
 use crate::head::headed;
 use answers::Answer;
@@ -22,7 +22,7 @@ pub struct CancelRejectRead {
 }
 
 pub fn read_cancel_reject(s: &[u8]) -> CancelRejectRead
-    ensures { result ≡ readCancelReject s.now }
+    ensures { result ≡ read_cancel_reject s.now }
 {
     let answer = judge(s, CANCEL_REJECT);
     let zeros = [0u8; 23];
@@ -35,14 +35,14 @@ pub fn read_cancel_reject(s: &[u8]) -> CancelRejectRead
 }
 
 pub fn spell_cancel_reject(m: CancelReject) -> [u8; 80]
-    ensures { (result ≡ inEighty (cancelRejectBytes m)) × (length (cancelRejectBytes m) ≡ 23) }
+    ensures { (result ≡ in_eighty (cancel_reject_bytes m)) × (length (cancel_reject_bytes m) ≡ 23) }
 {
     let token = m.token;
     headed(b'I', m.stamp, token)
 }
 
 pub fn write_cancel_reject(buffer: &mut [u8], m: CancelReject) -> Answer
-    ensures { (result ≡ writeAnswer cancelReject (cancelRejectBytes m) buffer.old) × (buffer.new ≡ bufferAfter cancelReject (cancelRejectBytes m) buffer.old) }
+    ensures { (result ≡ write_answer cancel_reject (cancel_reject_bytes m) buffer.old) × (buffer.new ≡ buffer_after cancel_reject (cancel_reject_bytes m) buffer.old) }
 {
     send(buffer, spell_cancel_reject(m), CANCEL_REJECT)
 }

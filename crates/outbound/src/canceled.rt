@@ -1,7 +1,7 @@
 // Canceled (C, 28 bytes): shares were taken off an order.
 ghost use Rattle.std.specs.Prelude.{◌≡◌, length};
-ghost use Rattle.wire.specs.Messages.{canceled, inEighty, writeAnswer, bufferAfter};
-ghost use Rattle.outbound.specs.Outbound.{canceledBytes, readCanceled};
+ghost use Rattle.wire.specs.Messages.{canceled, in_eighty, write_answer, buffer_after};
+ghost use Rattle.outbound.specs.Outbound.{canceled_bytes, read_canceled};
 
 use crate::head::headed;
 use answers::Answer;
@@ -26,7 +26,7 @@ pub struct CanceledRead {
 }
 
 pub fn read_canceled(s: &[u8]) -> CanceledRead
-    ensures { result ≡ readCanceled s.now }
+    ensures { result ≡ read_canceled s.now }
 {
     let answer = judge(s, CANCELED);
     let zeros = [0u8; 28];
@@ -41,7 +41,7 @@ pub fn read_canceled(s: &[u8]) -> CanceledRead
 }
 
 pub fn spell_canceled(m: Canceled) -> [u8; 80]
-    ensures { (result ≡ inEighty (canceledBytes m)) × (length (canceledBytes m) ≡ 28) }
+    ensures { (result ≡ in_eighty (canceled_bytes m)) × (length (canceled_bytes m) ≡ 28) }
 {
     let token = m.token;
     let mut t = headed(b'C', m.stamp, token);
@@ -51,7 +51,7 @@ pub fn spell_canceled(m: Canceled) -> [u8; 80]
 }
 
 pub fn write_canceled(buffer: &mut [u8], m: Canceled) -> Answer
-    ensures { (result ≡ writeAnswer canceled (canceledBytes m) buffer.old) × (buffer.new ≡ bufferAfter canceled (canceledBytes m) buffer.old) }
+    ensures { (result ≡ write_answer canceled (canceled_bytes m) buffer.old) × (buffer.new ≡ buffer_after canceled (canceled_bytes m) buffer.old) }
 {
     send(buffer, spell_canceled(m), CANCELED)
 }

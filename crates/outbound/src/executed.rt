@@ -1,7 +1,7 @@
 // Executed (E, 40 bytes): shares of an order were executed.
 ghost use Rattle.std.specs.Prelude.{◌≡◌, length};
-ghost use Rattle.wire.specs.Messages.{executed, inEighty, writeAnswer, bufferAfter};
-ghost use Rattle.outbound.specs.Outbound.{executedBytes, readExecuted};
+ghost use Rattle.wire.specs.Messages.{executed, in_eighty, write_answer, buffer_after};
+ghost use Rattle.outbound.specs.Outbound.{executed_bytes, read_executed};
 
 use crate::head::headed;
 use answers::Answer;
@@ -28,7 +28,7 @@ pub struct ExecutedRead {
 }
 
 pub fn read_executed(s: &[u8]) -> ExecutedRead
-    ensures { result ≡ readExecuted s.now }
+    ensures { result ≡ read_executed s.now }
 {
     let answer = judge(s, EXECUTED);
     let zeros = [0u8; 40];
@@ -45,7 +45,7 @@ pub fn read_executed(s: &[u8]) -> ExecutedRead
 }
 
 pub fn spell_executed(m: Executed) -> [u8; 80]
-    ensures { (result ≡ inEighty (executedBytes m)) × (length (executedBytes m) ≡ 40) }
+    ensures { (result ≡ in_eighty (executed_bytes m)) × (length (executed_bytes m) ≡ 40) }
 {
     let token = m.token;
     let mut t = headed(b'E', m.stamp, token);
@@ -57,7 +57,7 @@ pub fn spell_executed(m: Executed) -> [u8; 80]
 }
 
 pub fn write_executed(buffer: &mut [u8], m: Executed) -> Answer
-    ensures { (result ≡ writeAnswer executed (executedBytes m) buffer.old) × (buffer.new ≡ bufferAfter executed (executedBytes m) buffer.old) }
+    ensures { (result ≡ write_answer executed (executed_bytes m) buffer.old) × (buffer.new ≡ buffer_after executed (executed_bytes m) buffer.old) }
 {
     send(buffer, spell_executed(m), EXECUTED)
 }

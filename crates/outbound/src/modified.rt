@@ -1,7 +1,7 @@
 // Modified (M, 28 bytes): an order has another side or size, with what is open of it.
 ghost use Rattle.std.specs.Prelude.{◌≡◌, length};
-ghost use Rattle.wire.specs.Messages.{modified, inEighty, writeAnswer, bufferAfter};
-ghost use Rattle.outbound.specs.Outbound.{modifiedBytes, readModified};
+ghost use Rattle.wire.specs.Messages.{modified, in_eighty, write_answer, buffer_after};
+ghost use Rattle.outbound.specs.Outbound.{modified_bytes, read_modified};
 
 use crate::head::headed;
 use answers::Answer;
@@ -26,7 +26,7 @@ pub struct ModifiedRead {
 }
 
 pub fn read_modified(s: &[u8]) -> ModifiedRead
-    ensures { result ≡ readModified s.now }
+    ensures { result ≡ read_modified s.now }
 {
     let answer = judge(s, MODIFIED);
     let zeros = [0u8; 28];
@@ -41,7 +41,7 @@ pub fn read_modified(s: &[u8]) -> ModifiedRead
 }
 
 pub fn spell_modified(m: Modified) -> [u8; 80]
-    ensures { (result ≡ inEighty (modifiedBytes m)) × (length (modifiedBytes m) ≡ 28) }
+    ensures { (result ≡ in_eighty (modified_bytes m)) × (length (modified_bytes m) ≡ 28) }
 {
     let token = m.token;
     let mut t = headed(b'M', m.stamp, token);
@@ -51,7 +51,7 @@ pub fn spell_modified(m: Modified) -> [u8; 80]
 }
 
 pub fn write_modified(buffer: &mut [u8], m: Modified) -> Answer
-    ensures { (result ≡ writeAnswer modified (modifiedBytes m) buffer.old) × (buffer.new ≡ bufferAfter modified (modifiedBytes m) buffer.old) }
+    ensures { (result ≡ write_answer modified (modified_bytes m) buffer.old) × (buffer.new ≡ buffer_after modified (modified_bytes m) buffer.old) }
 {
     send(buffer, spell_modified(m), MODIFIED)
 }

@@ -1,7 +1,7 @@
 // Priority Update (T, 36 bytes): an order has another price, display and reference.
 ghost use Rattle.std.specs.Prelude.{◌≡◌, length};
-ghost use Rattle.wire.specs.Messages.{priorityUpdate, inEighty, writeAnswer, bufferAfter};
-ghost use Rattle.outbound.specs.Outbound.{priorityUpdateBytes, readPriorityUpdate};
+ghost use Rattle.wire.specs.Messages.{priority_update, in_eighty, write_answer, buffer_after};
+ghost use Rattle.outbound.specs.Outbound.{priority_update_bytes, read_priority_update};
 
 use crate::head::headed;
 use answers::Answer;
@@ -26,7 +26,7 @@ pub struct PriorityUpdateRead {
 }
 
 pub fn read_priority_update(s: &[u8]) -> PriorityUpdateRead
-    ensures { result ≡ readPriorityUpdate s.now }
+    ensures { result ≡ read_priority_update s.now }
 {
     let answer = judge(s, PRIORITY_UPDATE);
     let zeros = [0u8; 36];
@@ -42,7 +42,7 @@ pub fn read_priority_update(s: &[u8]) -> PriorityUpdateRead
 }
 
 pub fn spell_priority_update(m: PriorityUpdate) -> [u8; 80]
-    ensures { (result ≡ inEighty (priorityUpdateBytes m)) × (length (priorityUpdateBytes m) ≡ 36) }
+    ensures { (result ≡ in_eighty (priority_update_bytes m)) × (length (priority_update_bytes m) ≡ 36) }
 {
     let token = m.token;
     let mut t = headed(b'T', m.stamp, token);
@@ -53,7 +53,7 @@ pub fn spell_priority_update(m: PriorityUpdate) -> [u8; 80]
 }
 
 pub fn write_priority_update(buffer: &mut [u8], m: PriorityUpdate) -> Answer
-    ensures { (result ≡ writeAnswer priorityUpdate (priorityUpdateBytes m) buffer.old) × (buffer.new ≡ bufferAfter priorityUpdate (priorityUpdateBytes m) buffer.old) }
+    ensures { (result ≡ write_answer priority_update (priority_update_bytes m) buffer.old) × (buffer.new ≡ buffer_after priority_update (priority_update_bytes m) buffer.old) }
 {
     send(buffer, spell_priority_update(m), PRIORITY_UPDATE)
 }

@@ -1,7 +1,7 @@
 // Rejected (J, 24 bytes): an order or a replacement was not taken.
 ghost use Rattle.std.specs.Prelude.{◌≡◌, length};
-ghost use Rattle.wire.specs.Messages.{rejected, inEighty, writeAnswer, bufferAfter};
-ghost use Rattle.outbound.specs.Outbound.{rejectedBytes, readRejected};
+ghost use Rattle.wire.specs.Messages.{rejected, in_eighty, write_answer, buffer_after};
+ghost use Rattle.outbound.specs.Outbound.{rejected_bytes, read_rejected};
 
 use crate::head::headed;
 use answers::Answer;
@@ -24,7 +24,7 @@ pub struct RejectedRead {
 }
 
 pub fn read_rejected(s: &[u8]) -> RejectedRead
-    ensures { result ≡ readRejected s.now }
+    ensures { result ≡ read_rejected s.now }
 {
     let answer = judge(s, REJECTED);
     let zeros = [0u8; 24];
@@ -38,7 +38,7 @@ pub fn read_rejected(s: &[u8]) -> RejectedRead
 }
 
 pub fn spell_rejected(m: Rejected) -> [u8; 80]
-    ensures { (result ≡ inEighty (rejectedBytes m)) × (length (rejectedBytes m) ≡ 24) }
+    ensures { (result ≡ in_eighty (rejected_bytes m)) × (length (rejected_bytes m) ≡ 24) }
 {
     let token = m.token;
     let mut t = headed(b'J', m.stamp, token);
@@ -47,7 +47,7 @@ pub fn spell_rejected(m: Rejected) -> [u8; 80]
 }
 
 pub fn write_rejected(buffer: &mut [u8], m: Rejected) -> Answer
-    ensures { (result ≡ writeAnswer rejected (rejectedBytes m) buffer.old) × (buffer.new ≡ bufferAfter rejected (rejectedBytes m) buffer.old) }
+    ensures { (result ≡ write_answer rejected (rejected_bytes m) buffer.old) × (buffer.new ≡ buffer_after rejected (rejected_bytes m) buffer.old) }
 {
     send(buffer, spell_rejected(m), REJECTED)
 }

@@ -1,7 +1,7 @@
 // Replaced (U, 80 bytes): an order took the place of another, with what is open of it.
 ghost use Rattle.std.specs.Prelude.{◌≡◌, length};
-ghost use Rattle.wire.specs.Messages.{replaced, inEighty, writeAnswer, bufferAfter};
-ghost use Rattle.outbound.specs.Outbound.{replacedBytes, readReplaced};
+ghost use Rattle.wire.specs.Messages.{replaced, in_eighty, write_answer, buffer_after};
+ghost use Rattle.outbound.specs.Outbound.{replaced_bytes, read_replaced};
 
 use crate::head::headed;
 use crate::stated::{Stated, parse_stated, put_stated};
@@ -27,7 +27,7 @@ pub struct ReplacedRead {
 }
 
 pub fn read_replaced(s: &[u8]) -> ReplacedRead
-    ensures { result ≡ readReplaced s.now }
+    ensures { result ≡ read_replaced s.now }
 {
     let answer = judge(s, REPLACED);
     let zeros = [0u8; 80];
@@ -43,7 +43,7 @@ pub fn read_replaced(s: &[u8]) -> ReplacedRead
 }
 
 pub fn spell_replaced(m: Replaced) -> [u8; 80]
-    ensures { (result ≡ inEighty (replacedBytes m)) × (length (replacedBytes m) ≡ 80) }
+    ensures { (result ≡ in_eighty (replaced_bytes m)) × (length (replaced_bytes m) ≡ 80) }
 {
     let token = m.token;
     let order = m.order;
@@ -56,7 +56,7 @@ pub fn spell_replaced(m: Replaced) -> [u8; 80]
 }
 
 pub fn write_replaced(buffer: &mut [u8], m: Replaced) -> Answer
-    ensures { (result ≡ writeAnswer replaced (replacedBytes m) buffer.old) × (buffer.new ≡ bufferAfter replaced (replacedBytes m) buffer.old) }
+    ensures { (result ≡ write_answer replaced (replaced_bytes m) buffer.old) × (buffer.new ≡ buffer_after replaced (replaced_bytes m) buffer.old) }
 {
     send(buffer, spell_replaced(m), REPLACED)
 }

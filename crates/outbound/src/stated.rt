@@ -2,7 +2,7 @@
 ghost use Rattle.std.specs.Prelude.{◌≡◌, ◌≤◌, length};
 ghost use Rattle.wire.specs.Layout.{PutFields};
 ghost use Rattle.wire.specs.Messages.{stated};
-ghost use Rattle.outbound.specs.Outbound.{statedOf, statedValues};
+ghost use Rattle.outbound.specs.Outbound.{stated_of, stated_values};
 
 use wire::shares::Removed;
 use wire::spelling::{put_firm, put_integer, put_letter, put_long, put_stock};
@@ -26,7 +26,7 @@ pub struct Stated {
 
 pub(crate) fn parse_stated(s: &[u8]) -> Stated
     requires { 65 ≤ length s.now }
-    ensures { result ≡ statedOf s.now }
+    ensures { result ≡ stated_of s.now }
 {
     Stated {
         side: octets::byte_at(s, 23),
@@ -46,7 +46,7 @@ pub(crate) fn parse_stated(s: &[u8]) -> Stated
 }
 
 pub(crate) fn put_stated(t: &mut [u8; 80], order: Stated)
-    ensures { PutFields stated (statedValues order) t.old t.new }
+    ensures { PutFields stated (stated_values order) t.old t.new }
 {
     let stock = order.stock;
     let firm = order.firm;

@@ -1,7 +1,7 @@
 // System Event (S, 10 bytes): the day begins or ends.
 ghost use Rattle.std.specs.Prelude.{◌≡◌, length};
-ghost use Rattle.wire.specs.Messages.{systemEvent, inEighty, writeAnswer, bufferAfter};
-ghost use Rattle.outbound.specs.Outbound.{systemEventBytes, readSystemEvent};
+ghost use Rattle.wire.specs.Messages.{system_event, in_eighty, write_answer, buffer_after};
+ghost use Rattle.outbound.specs.Outbound.{system_event_bytes, read_system_event};
 
 use answers::Answer;
 use wire::frame::{legal_or_zeros, send};
@@ -22,7 +22,7 @@ pub struct SystemEventRead {
 }
 
 pub fn read_system_event(s: &[u8]) -> SystemEventRead
-    ensures { result ≡ readSystemEvent s.now }
+    ensures { result ≡ read_system_event s.now }
 {
     let answer = judge(s, SYSTEM_EVENT);
     let zeros = [0u8; 10];
@@ -35,7 +35,7 @@ pub fn read_system_event(s: &[u8]) -> SystemEventRead
 }
 
 pub fn spell_system_event(m: SystemEvent) -> [u8; 80]
-    ensures { (result ≡ inEighty (systemEventBytes m)) × (length (systemEventBytes m) ≡ 10) }
+    ensures { (result ≡ in_eighty (system_event_bytes m)) × (length (system_event_bytes m) ≡ 10) }
 {
     let mut t = started(b'S');
     put_long(&mut t, 1, m.stamp);
@@ -44,7 +44,7 @@ pub fn spell_system_event(m: SystemEvent) -> [u8; 80]
 }
 
 pub fn write_system_event(buffer: &mut [u8], m: SystemEvent) -> Answer
-    ensures { (result ≡ writeAnswer systemEvent (systemEventBytes m) buffer.old) × (buffer.new ≡ bufferAfter systemEvent (systemEventBytes m) buffer.old) }
+    ensures { (result ≡ write_answer system_event (system_event_bytes m) buffer.old) × (buffer.new ≡ buffer_after system_event (system_event_bytes m) buffer.old) }
 {
     send(buffer, spell_system_event(m), SYSTEM_EVENT)
 }

@@ -1,73 +1,73 @@
 -- A put and a release ask the same two questions in the same order: is the ring right, and is it too much? What passes both is done,
 -- and what doesn't changes nothing. Assumes nothing.
 use Rattle.octets.proofs.Proving.{Bool, List, ◌∙◌, ◌≡◌, ◌≤◌, ap, false, le-ltb, length, ltb, ltb-false, not, refl, sym, true, ℕ}
-use Rattle.octets.specs.Choice.{firstOf◌, ◌⇒◌⨾◌}
-use Rattle.answers.specs.Answer.{isDone, ifDone}
+use Rattle.octets.specs.Choice.{first_of◌, ◌⇒◌⨾◌}
+use Rattle.answers.specs.Answer.{is_done, if_done}
 use Rattle.answers.specs.declared.Answer.{Answer}
 use Rattle.answers.specs.declared.Answer.TheVariants.{Done, WrongRing, Blocked, NotHeld}
-use Rattle.outbox.specs.Outbox.{Marks, ringGood, freeBytes, putAnswer, putMarks, putRing, marksWith, ringWith, releaseAnswer, releaseMarks, marksWithout}
+use Rattle.outbox.specs.Outbox.{Marks, ring_good, free_bytes, put_answer, put_marks, put_ring, marks_with, ring_with, release_answer, release_marks, marks_without}
 
 abbrev guarded : Bool → Bool → Answer → Answer
-guarded right tooMuch refusal =
+guarded right too_much refusal =
     first_of
     not right ⇒ WrongRing
-    ⨾ tooMuch ⇒ refusal
+    ⨾ too_much ⇒ refusal
     ⨾ Done
 
 -- what is done has passed both
-passed : (right tooMuch : Bool) (refusal : Answer) → isDone refusal ≡ false → guarded right tooMuch refusal ≡ Done → (right ≡ true) × (tooMuch ≡ false)
-unfolding isDone
+passed : (right too_much : Bool) (refusal : Answer) → is_done refusal ≡ false → guarded right too_much refusal ≡ Done → (right ≡ true) × (too_much ≡ false)
+unfolding is_done
 passed true false refusal r e = (refl, refl)
-passed true true refusal r e = let z : true ≡ false = sym (ap isDone e) ∙ r in (refl, z)
-passed false tooMuch refusal r e = let z : false ≡ true = ap isDone e in (z, cc)
+passed true true refusal r e = let z : true ≡ false = sym (ap is_done e) ∙ r in (refl, z)
+passed false too_much refusal r e = let z : false ≡ true = ap is_done e in (z, cc)
 
 -- and what has not changes nothing
-refused : {A : Type 0} (right tooMuch : Bool) (refusal : Answer) → isDone refusal ≡ false → (after before : A)
-    → (guarded right tooMuch refusal ≡ Done → ⊥) → ifDone (guarded right tooMuch refusal) after before ≡ before
-unfolding ifDone isDone
+refused : {A : Type 0} (right too_much : Bool) (refusal : Answer) → is_done refusal ≡ false → (after before : A)
+    → (guarded right too_much refusal ≡ Done → ⊥) → if_done (guarded right too_much refusal) after before ≡ before
+unfolding if_done is_done
 refused true false refusal r after before e = absurd (e refl)
 refused true true refusal r after before e = simp r
-refused false tooMuch refusal r after before e = refl
+refused false too_much refusal r after before e = refl
 
 module _ (n : ℕ) (m : Marks) (size : ℕ) where
-  pub put-passes : ringGood n m ≡ true → size ≤ freeBytes n m → putAnswer n m size ≡ Done
-  unfolding putAnswer
+  pub put-passes : ring_good n m ≡ true → size ≤ free_bytes n m → put_answer n m size ≡ Done
+  unfolding put_answer
   put-passes ok room = simp (ok, le-ltb _ _ room)
 
-  pub put-passed : putAnswer n m size ≡ Done → (ringGood n m ≡ true) × (size ≤ freeBytes n m)
-  unfolding putAnswer isDone
-  put-passed done = let p = passed (ringGood n m) _ Blocked refl done in (p.0, ltb-false _ _ p.1)
+  pub put-passed : put_answer n m size ≡ Done → (ring_good n m ≡ true) × (size ≤ free_bytes n m)
+  unfolding put_answer is_done
+  put-passed done = let p = passed (ring_good n m) _ Blocked refl done in (p.0, ltb-false _ _ p.1)
 
-  pub put-marks-done : putAnswer n m size ≡ Done → putMarks n m size ≡ marksWith m size
-  unfolding putMarks ifDone isDone
+  pub put-marks-done : put_answer n m size ≡ Done → put_marks n m size ≡ marks_with m size
+  unfolding put_marks if_done is_done
   put-marks-done done = simp done
 
-  pub put-marks-refused : (putAnswer n m size ≡ Done → ⊥) → putMarks n m size ≡ m
-  unfolding putMarks putAnswer isDone
-  put-marks-refused kept = refused (ringGood n m) (ltb (freeBytes n m) size) Blocked refl (marksWith m size) m kept
+  pub put-marks-refused : (put_answer n m size ≡ Done → ⊥) → put_marks n m size ≡ m
+  unfolding put_marks put_answer is_done
+  put-marks-refused kept = refused (ring_good n m) (ltb (free_bytes n m) size) Blocked refl (marks_with m size) m kept
 
-  pub release-passes : ringGood n m ≡ true → size ≤ m.held → releaseAnswer n m size ≡ Done
-  unfolding releaseAnswer
+  pub release-passes : ring_good n m ≡ true → size ≤ m.held → release_answer n m size ≡ Done
+  unfolding release_answer
   release-passes ok enough = simp (ok, le-ltb _ _ enough)
 
-  pub release-passed : releaseAnswer n m size ≡ Done → (ringGood n m ≡ true) × (size ≤ m.held)
-  unfolding releaseAnswer isDone
-  release-passed done = let p = passed (ringGood n m) _ NotHeld refl done in (p.0, ltb-false _ _ p.1)
+  pub release-passed : release_answer n m size ≡ Done → (ring_good n m ≡ true) × (size ≤ m.held)
+  unfolding release_answer is_done
+  release-passed done = let p = passed (ring_good n m) _ NotHeld refl done in (p.0, ltb-false _ _ p.1)
 
-  pub release-marks-done : releaseAnswer n m size ≡ Done → releaseMarks n m size ≡ marksWithout n m size
-  unfolding releaseMarks ifDone isDone
+  pub release-marks-done : release_answer n m size ≡ Done → release_marks n m size ≡ marks_without n m size
+  unfolding release_marks if_done is_done
   release-marks-done done = simp done
 
-  pub release-marks-refused : (releaseAnswer n m size ≡ Done → ⊥) → releaseMarks n m size ≡ m
-  unfolding releaseMarks releaseAnswer isDone
-  release-marks-refused kept = refused (ringGood n m) (ltb m.held size) NotHeld refl (marksWithout n m size) m kept
+  pub release-marks-refused : (release_answer n m size ≡ Done → ⊥) → release_marks n m size ≡ m
+  unfolding release_marks release_answer is_done
+  release-marks-refused kept = refused (ring_good n m) (ltb m.held size) NotHeld refl (marks_without n m size) m kept
 
 module _ (ring : List ℕ) (m : Marks) (message : List ℕ) where
-  pub put-ring-done : putAnswer (length ring) m (length message) ≡ Done → putRing ring m message ≡ ringWith ring m message
-  unfolding putRing ifDone isDone
+  pub put-ring-done : put_answer (length ring) m (length message) ≡ Done → put_ring ring m message ≡ ring_with ring m message
+  unfolding put_ring if_done is_done
   put-ring-done done = simp done
 
-  pub put-ring-refused : (putAnswer (length ring) m (length message) ≡ Done → ⊥) → putRing ring m message ≡ ring
-  unfolding putRing putAnswer isDone
+  pub put-ring-refused : (put_answer (length ring) m (length message) ≡ Done → ⊥) → put_ring ring m message ≡ ring
+  unfolding put_ring put_answer is_done
   put-ring-refused kept =
-      refused (ringGood (length ring) m) (ltb (freeBytes (length ring) m) (length message)) Blocked refl (ringWith ring m message) ring kept
+      refused (ring_good (length ring) m) (ltb (free_bytes (length ring) m) (length message)) Blocked refl (ring_with ring m message) ring kept

@@ -1,6 +1,6 @@
 -- A ring seen from a place on, around its end. Wrapping is proved here and nowhere else: three facts about places, and one law about
 -- rings of every length, `from-around`. What is said of a byte and of a store follows from that law. Assumes nothing.
-use Rattle.octets.proofs.Proving.{Bool, List, List·getD-append, ◌++◌, ◌+◌, ◌-◌, ◌<◌, ◌∙◌, ◌≡◌, ◌≤◌, add-zero, ap, append_assoc, arith, drop, drop-append-add, drop-append-le, drop_at, drop-drop, false, get_or, get_or-drop, le-ltb, length, length-append, length-drop, length-take-le, lt-ltb, ltb, ltb-false, ltb-true, refl, sym, take, take-add, take-append-add, take-append-drop, take-append-le, take_at, take-take, true, zero-add, ℕ}
+use Rattle.octets.proofs.Proving.{Bool, List, List·get_d-append, ◌++◌, ◌+◌, ◌-◌, ◌<◌, ◌∙◌, ◌≡◌, ◌≤◌, add-zero, ap, append_assoc, arith, drop, drop-append-add, drop-append-le, drop_at, drop-drop, false, get_or, get_or-drop, le-ltb, length, length-append, length-drop, length-take-le, lt-ltb, ltb, ltb-false, ltb-true, refl, sym, take, take-add, take-append-add, take-append-drop, take-append-le, take_at, take-take, true, zero-add, ℕ}
 use Rattle.octets.specs.Choice.{pick}
 use Rattle.octets.specs.Bytes.{put}
 use Rattle.octets.proofs.Laws.{length-put, put-left}
@@ -44,13 +44,13 @@ around-below n place h = go (ltb place n) refl
     go false e = omega (arith, ltb-false place n e)
 
 -- from a place on to the end and no further, one stands at the start
-pub around-end : (n place toEnd : ℕ) → around n place + toEnd ≡ n → place + toEnd < n + n → around n (place + toEnd) ≡ 0
-around-end n place toEnd reach h = go (ltb place n) refl reach
+pub around-end : (n place to_end : ℕ) → around n place + to_end ≡ n → place + to_end < n + n → around n (place + to_end) ≡ 0
+around-end n place to_end reach h = go (ltb place n) refl reach
   where
-    go : (b : Bool) → ltb place n ≡ b → pick b place (place - n) + toEnd ≡ n → around n (place + toEnd) ≡ 0
+    go : (b : Bool) → ltb place n ≡ b → pick b place (place - n) + to_end ≡ n → around n (place + to_end) ≡ 0
     go true e r =
-        let past : n ≤ place + toEnd = omega arith in
-        simp (le-ltb (place + toEnd) n past) (omega arith)
+        let past : n ≤ place + to_end = omega arith in
+        simp (le-ltb (place + to_end) n past) (omega arith)
     go false e r =
         let past : n ≤ place = ltb-false _ _ e in
         let no_way : ⊥ = omega arith in
@@ -102,7 +102,7 @@ first-from : (place : ℕ) (ring : List ℕ) → place < length ring → get_or 
 unfolding from
 first-from place ring h =
     let hd : 0 < length (drop place ring) = rw length-drop (omega arith) in
-    List·getD-append (drop place ring) (take place ring) 0 0 hd ∙ get_or-drop place ring 0 0 ∙ ap (λ (k : ℕ). get_or ring k 0) (add-zero place)
+    List·get_d-append (drop place ring) (take place ring) 0 0 hd ∙ get_or-drop place ring 0 0 ∙ ap (λ (k : ℕ). get_or ring k 0) (add-zero place)
 
 put_first : (place : ℕ) (ring x : List ℕ) → place + length x ≤ length ring → from place (put ring place x) ≡ put (from place ring) 0 x
 unfolding from

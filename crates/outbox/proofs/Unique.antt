@@ -11,7 +11,7 @@ use denote.Triple.Entry.{Args, Res}
 use denote.Triple.Clauses.{AtExit}
 use Rattle.octets.proofs.Settles.{Settles, Settled, SettledBoth, ◌and◌, ◌also◌, settled, settled-both, one-pair}
 use Rattle.answers.specs.declared.Answer.{Answer}
-use Rattle.outbox.specs.Outbox.{Marks, releaseAnswer, releaseMarks}
+use Rattle.outbox.specs.Outbox.{Marks, release_answer, release_marks}
 use Rattle.outbox.proofs as outbox
 use Rattle.outbox.specs.contracts.release.release_in_place as in_place
 
@@ -27,7 +27,7 @@ read-unique κs a z z' e e' p p' = one-pair p p'
 
 -- The promise of the one function that is proved by hand has no reading made for it: this is one, and that it is the promise is `refl`.
 abbrev InPlace : (κs : Lfts 1) → Args in_place.signature κs → Res in_place.signature κs → AtExit in_place.ended κs → Type 0
-InPlace κs a z e = (z ≡ releaseAnswer a.0 a.1.0.now a.1.1.0) × (e.1.0.now ≡ releaseMarks a.0 a.1.0.now a.1.1.0)
+InPlace κs a z e = (z ≡ release_answer a.0 a.1.0.now a.1.1.0) × (e.1.0.now ≡ release_marks a.0 a.1.0.now a.1.1.0)
 
 in-place-promise : {M : Type 1} {𝓤 : Ura M} (𝓛 : Logic 𝓤) (mem : Memory → SProp 𝓤) (run : Routine → Fun 𝓤)
     (κs : Lfts 1) (a : Args in_place.signature κs) (z : Res in_place.signature κs) (e : AtExit in_place.ended κs)

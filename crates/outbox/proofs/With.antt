@@ -3,7 +3,7 @@
 use Rattle.octets.proofs.Proving.{List, ◌++◌, ◌+◌, ◌<◌, ◌∙◌, ◌≡◌, ◌≤◌, ap, arith, length, sym, true, ℕ}
 use Rattle.octets.specs.Bytes.{put}
 use Rattle.octets.proofs.Laws.{length-put, put-put}
-use Rattle.outbox.specs.Outbox.{Marks, ringGood, freeBytes, from, back, held, ringWith, marksWith}
+use Rattle.outbox.specs.Outbox.{Marks, ring_good, free_bytes, from, back, held, ring_with, marks_with}
 use Rattle.outbox.proofs.Right.{right}
 use Rattle.outbox.proofs.Ring.{length_from, length_back, from_back}
 
@@ -12,8 +12,8 @@ pub record Fits (ring : List ℕ) (m : Marks) (message : List ℕ) : Type 0 wher
   pub place : m.at < length ring
   pub room : m.held + length message ≤ length ring
 
-pub fits-free : (ring : List ℕ) (m : Marks) (message : List ℕ) → ringGood (length ring) m ≡ true → length message ≤ freeBytes (length ring) m → Fits ring m message
-unfolding freeBytes
+pub fits-free : (ring : List ℕ) (m : Marks) (message : List ℕ) → ring_good (length ring) m ≡ true → length message ≤ free_bytes (length ring) m → Fits ring m message
+unfolding free_bytes
 fits-free ring m message good room = let r = right (length ring) m good in record { place = r.place; room = omega arith }
 
 module _ (ring : List ℕ) (m : Marks) (message : List ℕ) (fits : Fits ring m message) where
@@ -23,19 +23,19 @@ module _ (ring : List ℕ) (m : Marks) (message : List ℕ) (fits : Fits ring m 
   length-seen-with : length (put (from m.at ring) m.held message) ≡ length ring
   length-seen-with = length-put (from m.at ring) m.held message (omega (arith, seen)) ∙ seen
 
-  pub length-with : length (ringWith ring m message) ≡ length ring
-  unfolding ringWith held
+  pub length-with : length (ring_with ring m message) ≡ length ring
+  unfolding ring_with held
   length-with = length_back m.at (put (from m.at ring) m.held message) ∙ length-seen-with
 
   -- what is seen from the read place afterwards: the held bytes, the message, and what was behind it
-  pub from-with : from m.at (ringWith ring m message) ≡ put (from m.at ring) m.held message
-  unfolding ringWith held
+  pub from-with : from m.at (ring_with ring m message) ≡ put (from m.at ring) m.held message
+  unfolding ring_with held
   from-with = from_back m.at (put (from m.at ring) m.held message) (omega (arith, length-seen-with))
 
 -- a message in two pieces is two messages
 pub with-pieces : (ring : List ℕ) (m : Marks) (x y : List ℕ) → Fits ring m x → m.held + length x + length y ≤ length ring
-    → ringWith ring m (x ++ y) ≡ ringWith (ringWith ring m x) (marksWith m (length x)) y
-unfolding ringWith held marksWith
+    → ring_with ring m (x ++ y) ≡ ring_with (ring_with ring m x) (marks_with m (length x)) y
+unfolding ring_with held marks_with
 with-pieces ring m x y fits h =
     sym (ap (λ (l : List ℕ). back m.at (put l (m.held + length x) y)) (from-with ring m x fits)
     ∙ ap (back m.at) (put-put (from m.at ring) m.held x y (omega (arith, seen ring m x fits))))

@@ -1,6 +1,6 @@
 // The marks of a ring: where the held bytes begin and how many there are.
 ghost use Rattle.std.specs.Prelude.{◌≡◌};
-ghost use Rattle.outbox.specs.Outbox.{ringGood, around, unmoved};
+ghost use Rattle.outbox.specs.Outbox.{ring_good, around, unmoved};
 
 use answers::Answer;
 
@@ -25,7 +25,7 @@ pub struct Moved {
 
 // Whether a ring of n bytes and its marks are right. Marks come from outside with every call, so every call asks.
 pub fn ring_good(n: usize, marks: Marks) -> bool
-    ensures { result ≡ ringGood n marks }
+    ensures { result ≡ ring_good n marks }
 {
     if n < SHORTEST_RING {
         return false;

@@ -4,17 +4,17 @@
 mod settings;
 
 ghost use Rattle.std.specs.Prelude.{◌≡◌, not, eqb, length};
-ghost use Rattle.answers.specs.Answer.{answerNumber, answerPlace};
-ghost use Rattle.table.specs.Fresh.{freshAnswer, freshTable};
+ghost use Rattle.answers.specs.Answer.{answer_number, answer_place};
+ghost use Rattle.table.specs.Fresh.{fresh_answer, fresh_table};
 ghost use Rattle.table.specs.Status.{status};
-ghost use Rattle.convert.specs.Convert.{convertAnswer, converted};
-ghost use Rattle.outbox.specs.Outbox.{readRun, releaseAnswer, releaseMarks};
-ghost use Rattle.echo.specs.Echo.{messageAnswer, messageEchoed};
+ghost use Rattle.convert.specs.Convert.{convert_answer, converted};
+ghost use Rattle.outbox.specs.Outbox.{read_run, release_answer, release_marks};
+ghost use Rattle.echo.specs.Echo.{message_answer, message_echoed};
 ghost use Rattle.host.specs.Step.{step, world};
-ghost use Rattle.stamping.specs.Stamping.{stampAnswer, stampAfter};
-ghost use Rattle.tape.specs.Kinds.{entryLength};
-ghost use Rattle.wire.specs.Messages.{messageLength};
-ghost use Rattle.port.specs.Door.{marks, settingsGiven, Left, Stated};
+ghost use Rattle.stamping.specs.Stamping.{stamp_answer, stamp_after};
+ghost use Rattle.tape.specs.Kinds.{entry_length};
+ghost use Rattle.wire.specs.Messages.{message_length};
+ghost use Rattle.port.specs.Door.{marks, settings_given, Left, Stated};
 
 use crate::settings::settings_given;
 use answers::number;
@@ -33,7 +33,7 @@ use wire::messages::message_length;
 // A fresh table from threshold and firms, 4 bytes each, one after the other.
 #[unsafe(no_mangle)]
 pub extern "C" fn pq_fresh(table: &mut [u8], threshold: u32, firms: &[u8]) -> u8
-    ensures { (result ≡ answerNumber (freshAnswer table.old (settingsGiven threshold firms.now))) × (table.new ≡ freshTable table.old (settingsGiven threshold firms.now)) }
+    ensures { (result ≡ answer_number (fresh_answer table.old (settings_given threshold firms.now))) × (table.new ≡ fresh_table table.old (settings_given threshold firms.now)) }
 {
     number(fresh(table, settings_given(threshold, firms)))
 }
@@ -84,7 +84,7 @@ pub extern "C" fn pq_status(table: &[u8], live: &mut usize, shares: &mut usize) 
 // An old table rebuilt as one of today.
 #[unsafe(no_mangle)]
 pub extern "C" fn pq_convert(old: &[u8], table: &mut [u8]) -> u8
-    ensures { (result ≡ answerNumber (convertAnswer old.now (length table.old))) × (table.new ≡ converted old.now table.old) }
+    ensures { (result ≡ answer_number (convert_answer old.now (length table.old))) × (table.new ≡ converted old.now table.old) }
 {
     let rebuilt = convert(old, table);
     number(rebuilt)
@@ -93,7 +93,7 @@ pub extern "C" fn pq_convert(old: &[u8], table: &mut [u8]) -> u8
 // How many bytes there are to read at the read place.
 #[unsafe(no_mangle)]
 pub extern "C" fn pq_read(ring: &[u8], at: usize, held: usize) -> usize
-    ensures { result ≡ length (readRun ring.now (marks at held)) }
+    ensures { result ≡ length (read_run ring.now (marks at held)) }
 {
     let run = read(ring, Marks { at, held });
     run.len()
@@ -102,8 +102,8 @@ pub extern "C" fn pq_read(ring: &[u8], at: usize, held: usize) -> usize
 // The oldest k bytes of a ring of n are given up.
 #[unsafe(no_mangle)]
 pub extern "C" fn pq_release(n: usize, at: &mut usize, held: &mut usize, k: usize) -> u8
-    ensures value { result ≡ answerNumber (releaseAnswer n (marks at.old held.old) k) }
-    ensures held_after { marks at.new held.new ≡ releaseMarks n (marks at.old held.old) k }
+    ensures value { result ≡ answer_number (release_answer n (marks at.old held.old) k) }
+    ensures held_after { marks at.new held.new ≡ release_marks n (marks at.old held.old) k }
 {
     let moved = release(
         n,
@@ -123,8 +123,8 @@ pub extern "C" fn pq_release(n: usize, at: &mut usize, held: &mut usize, k: usiz
 // A message read, as inbound where `inbound` is not 0, and written back into `out`. The place of the answer is written, too.
 #[unsafe(no_mangle)]
 pub extern "C" fn pq_echo(inbound: u8, message: &[u8], out: &mut [u8], place: &mut usize) -> u8
-    ensures value { (result ≡ answerNumber (messageAnswer (not (eqb inbound 0)) message.now out.old)) × (place.new ≡ answerPlace (messageAnswer (not (eqb inbound 0)) message.now out.old)) }
-    ensures out_after { out.new ≡ messageEchoed (not (eqb inbound 0)) message.now out.old }
+    ensures value { (result ≡ answer_number (message_answer (not (eqb inbound 0)) message.now out.old)) × (place.new ≡ answer_place (message_answer (not (eqb inbound 0)) message.now out.old)) }
+    ensures out_after { out.new ≡ message_echoed (not (eqb inbound 0)) message.now out.old }
 {
     let echoed = echo(inbound != 0, message, out);
     *place = answers::place(echoed);
@@ -140,8 +140,8 @@ pub extern "C" fn pq_entry(
     entry: &mut [u8],
     place: &mut usize,
 ) -> u8
-    ensures value { (result ≡ answerNumber (stampAnswer (not (eqb purge 0)) stamp message.now entry.old)) × (place.new ≡ answerPlace (stampAnswer (not (eqb purge 0)) stamp message.now entry.old)) }
-    ensures after { entry.new ≡ stampAfter (not (eqb purge 0)) stamp message.now entry.old }
+    ensures value { (result ≡ answer_number (stamp_answer (not (eqb purge 0)) stamp message.now entry.old)) × (place.new ≡ answer_place (stamp_answer (not (eqb purge 0)) stamp message.now entry.old)) }
+    ensures after { entry.new ≡ stamp_after (not (eqb purge 0)) stamp message.now entry.old }
 {
     let made = stamped(purge != 0, stamp, message, entry);
     *place = answers::place(made);
@@ -151,7 +151,7 @@ pub extern "C" fn pq_entry(
 // The length of an entry of this kind, kind byte and stamp included, so that no driver keeps a table of its own; 0 for no kind.
 #[unsafe(no_mangle)]
 pub extern "C" fn pq_entry_length(kind: u8) -> usize
-    ensures { result ≡ entryLength kind }
+    ensures { result ≡ entry_length kind }
 {
     entry_length(kind)
 }
@@ -159,7 +159,7 @@ pub extern "C" fn pq_entry_length(kind: u8) -> usize
 // The length of the message of this type, as inbound where `inbound` is not 0; 0 for no type.
 #[unsafe(no_mangle)]
 pub extern "C" fn pq_message_length(inbound: u8, letter: u8) -> usize
-    ensures { result ≡ messageLength (not (eqb inbound 0)) letter }
+    ensures { result ≡ message_length (not (eqb inbound 0)) letter }
 {
     message_length(inbound != 0, letter)
 }

@@ -1,7 +1,7 @@
 // A table's settings from what a C caller names: the threshold, and firm codes in a row.
 ghost use Rattle.std.specs.Prelude.{◌≡◌, ◌<◌};
-ghost use Rattle.header.specs.Limits.{mostFirms};
-ghost use Rattle.port.specs.Door.{countGiven, firmGiven, firmsGiven, settingsGiven};
+ghost use Rattle.header.specs.Limits.{most_firms};
+ghost use Rattle.port.specs.Door.{count_given, firm_given, firms_given, settings_given};
 
 use header::firms::{FIRM_SIZE, MOST_FIRMS};
 use header::settings::{Firm, Settings};
@@ -9,7 +9,7 @@ use wire::shares::Total;
 
 // How many codes the row has. One that is not of whole codes, or of more than eight, counts as none, which no table takes.
 fn count_given(firms: &[u8]) -> u8
-    ensures { result ≡ countGiven firms.now }
+    ensures { result ≡ count_given firms.now }
 {
     let n = firms.len();
     if (n % FIRM_SIZE == 0) & (n <= FIRM_SIZE * MOST_FIRMS) {
@@ -20,8 +20,8 @@ fn count_given(firms: &[u8]) -> u8
 
 // The code at place k. Where the row has none, whatever stands there is past the count and not looked at.
 fn firm_given(firms: &[u8], k: usize) -> Firm
-    requires { k < mostFirms }
-    ensures { result ≡ firmGiven firms.now k }
+    requires { k < most_firms }
+    ensures { result ≡ firm_given firms.now k }
 {
     let at = FIRM_SIZE * k;
     if at + FIRM_SIZE <= firms.len() {
@@ -33,7 +33,7 @@ fn firm_given(firms: &[u8], k: usize) -> Firm
 
 // A code to a place.
 fn firms_given(firms: &[u8]) -> [Firm; 8]
-    ensures { result ≡ firmsGiven firms.now }
+    ensures { result ≡ firms_given firms.now }
 {
     [
         firm_given(firms, 0),
@@ -48,7 +48,7 @@ fn firms_given(firms: &[u8]) -> [Firm; 8]
 }
 
 pub(crate) fn settings_given(threshold: u32, firms: &[u8]) -> Settings
-    ensures { result ≡ settingsGiven threshold firms.now }
+    ensures { result ≡ settings_given threshold firms.now }
 {
     let places = firms_given(firms);
     Settings {

@@ -3,8 +3,8 @@
 -- field's first byte.
 use Rattle.std.specs.Prelude.{ℕ, List, [], ◌∷◌}
 use Prim.Native.Char.{code}
-use Rattle.wire.specs.Layout.{Layout, whole_at, textAt, blankAt, rangeAt, Values, ◌&◌, FromFields, reading, spell}
-use Rattle.wire.specs.Messages.{readAnswer, legalOrZeros}
+use Rattle.wire.specs.Layout.{Layout, whole_at, text_at, blank_at, range_at, Values, ◌&◌, FromFields, reading, spell}
+use Rattle.wire.specs.Messages.{read_answer, legal_or_zeros}
 pub use Rattle.purge.specs.declared.mass_cancel.MassCancel.{MassCancel}
 pub use Rattle.purge.specs.declared.mass_cancel.MassCancelRead.{MassCancelRead}
 pub use Rattle.purge.specs.declared.order_entry.OrderEntry.{OrderEntry}
@@ -12,21 +12,21 @@ pub use Rattle.purge.specs.declared.order_entry.OrderEntryRead.{OrderEntryRead}
 
 -- ---- Mass Cancel Request (Ask 5; document 000, 2.1)
 
-abbrev pub massCancel : Layout
-massCancel = record {
+abbrev pub mass_cancel : Layout
+mass_cancel = record {
   code = code "M";
   size = 25;
   fields =
       whole_at 1 4  -- User Reference Number
-      ∷ textAt 5 4  -- Firm
-      ∷ blankAt 9 6  -- Account
-      ∷ textAt 15 8  -- Symbol
-      ∷ rangeAt 23 2 0 0  -- Appendage Length
+      ∷ text_at 5 4  -- Firm
+      ∷ blank_at 9 6  -- Account
+      ∷ text_at 15 8  -- Symbol
+      ∷ range_at 23 2 0 0  -- Appendage Length
       ∷ [];
 }
 
-abbrev pub massCancelMade : FromFields massCancel.fields MassCancel
-massCancelMade reference firm account symbol appendage = record {
+abbrev pub mass_cancel_made : FromFields mass_cancel.fields MassCancel
+mass_cancel_made reference firm account symbol appendage = record {
   user_reference = reference;
   firm = firm;
   account = account;
@@ -34,59 +34,59 @@ massCancelMade reference firm account symbol appendage = record {
   appendage_length = appendage;
 }
 
-unfoldable pub massCancelOf : List ℕ → MassCancel
-massCancelOf s = reading massCancel.fields s massCancelMade
+unfoldable pub mass_cancel_of : List ℕ → MassCancel
+mass_cancel_of s = reading mass_cancel.fields s mass_cancel_made
 
-abbrev pub massCancelValues : MassCancel → Values massCancel.fields
-massCancelValues m = m.user_reference & m.firm & m.account & m.symbol & m.appendage_length & tt
+abbrev pub mass_cancel_values : MassCancel → Values mass_cancel.fields
+mass_cancel_values m = m.user_reference & m.firm & m.account & m.symbol & m.appendage_length & tt
 
-unfoldable pub massCancelBytes : MassCancel → List ℕ
-massCancelBytes m = spell massCancel (massCancelValues m)
+unfoldable pub mass_cancel_bytes : MassCancel → List ℕ
+mass_cancel_bytes m = spell mass_cancel (mass_cancel_values m)
 
-abbrev pub readMassCancel : List ℕ → MassCancelRead
-readMassCancel s = record { answer = readAnswer massCancel s; body = massCancelOf (legalOrZeros massCancel s) }
+abbrev pub read_mass_cancel : List ℕ → MassCancelRead
+read_mass_cancel s = record { answer = read_answer mass_cancel s; body = mass_cancel_of (legal_or_zeros mass_cancel s) }
 
 -- ---- Disable and Enable Order Entry Request (Ask 5; document 000, 2.2 and 2.3): one table, and a letter each
 
-abbrev pub orderEntry : ℕ → Layout
-orderEntry letter = record {
+abbrev pub order_entry : ℕ → Layout
+order_entry letter = record {
   code = letter;
   size = 15;
   fields =
       whole_at 1 4  -- User Reference Number
-      ∷ textAt 5 4  -- Firm
-      ∷ blankAt 9 6  -- Account
+      ∷ text_at 5 4  -- Firm
+      ∷ blank_at 9 6  -- Account
       ∷ [];
 }
 
 abbrev pub disable : Layout
-disable = orderEntry (code "D")
+disable = order_entry (code "D")
 
 abbrev pub enable : Layout
-enable = orderEntry (code "E")
+enable = order_entry (code "E")
 
-abbrev pub orderEntryMade : FromFields disable.fields OrderEntry
-orderEntryMade reference firm account = record { user_reference = reference; firm = firm; account = account }
+abbrev pub order_entry_made : FromFields disable.fields OrderEntry
+order_entry_made reference firm account = record { user_reference = reference; firm = firm; account = account }
 
-unfoldable pub orderEntryOf : List ℕ → OrderEntry
-orderEntryOf s = reading disable.fields s orderEntryMade
+unfoldable pub order_entry_of : List ℕ → OrderEntry
+order_entry_of s = reading disable.fields s order_entry_made
 
-abbrev pub orderEntryValues : OrderEntry → Values disable.fields
-orderEntryValues m = m.user_reference & m.firm & m.account & tt
+abbrev pub order_entry_values : OrderEntry → Values disable.fields
+order_entry_values m = m.user_reference & m.firm & m.account & tt
 
-unfoldable pub orderEntryBytes : ℕ → OrderEntry → List ℕ
-orderEntryBytes letter m = spell (orderEntry letter) (orderEntryValues m)
+unfoldable pub order_entry_bytes : ℕ → OrderEntry → List ℕ
+order_entry_bytes letter m = spell (order_entry letter) (order_entry_values m)
 
-abbrev pub readOrderEntry : ℕ → List ℕ → OrderEntryRead
-readOrderEntry letter s = record { answer = readAnswer (orderEntry letter) s; body = orderEntryOf (legalOrZeros (orderEntry letter) s) }
+abbrev pub read_order_entry : ℕ → List ℕ → OrderEntryRead
+read_order_entry letter s = record { answer = read_answer (order_entry letter) s; body = order_entry_of (legal_or_zeros (order_entry letter) s) }
 
-abbrev pub readDisable : List ℕ → OrderEntryRead
-readDisable s = readOrderEntry disable.code s
+abbrev pub read_disable : List ℕ → OrderEntryRead
+read_disable s = read_order_entry disable.code s
 
-abbrev pub readEnable : List ℕ → OrderEntryRead
-readEnable s = readOrderEntry enable.code s
+abbrev pub read_enable : List ℕ → OrderEntryRead
+read_enable s = read_order_entry enable.code s
 
 -- ---- the three as one list
 
 abbrev pub requests : List Layout
-requests = massCancel ∷ disable ∷ enable ∷ []
+requests = mass_cancel ∷ disable ∷ enable ∷ []

@@ -6,14 +6,14 @@ pub mod mass_cancel;
 pub mod order_entry;
 
 ghost use Rattle.std.specs.Prelude.{◌≡◌};
-ghost use Rattle.wire.specs.Messages.{lengthFor};
+ghost use Rattle.wire.specs.Messages.{length_for};
 ghost use Rattle.purge.specs.Purge.{requests};
 
 use crate::order_entry::{DISABLE, ENABLE};
 
 // The length of the message with this type, 0 where there is none: a row of them is cut by it.
 pub fn request_length(letter: u8) -> usize
-    ensures { result ≡ lengthFor requests letter }
+    ensures { result ≡ length_for requests letter }
 {
     match letter {
         b'M' => 25,

@@ -1,7 +1,7 @@
 // Mass Cancel Request (M, 25 bytes): cancels a firm's orders, in one symbol or in all.
 ghost use Rattle.std.specs.Prelude.{◌≡◌, length};
-ghost use Rattle.wire.specs.Messages.{readAnswer};
-ghost use Rattle.purge.specs.Purge.{massCancel, massCancelOf, readMassCancel};
+ghost use Rattle.wire.specs.Messages.{read_answer};
+ghost use Rattle.purge.specs.Purge.{mass_cancel, mass_cancel_of, read_mass_cancel};
 
 use answers::Answer;
 use wire::frame::taken;
@@ -25,7 +25,7 @@ pub struct MassCancelRead {
 
 // Length and type, then a blank account, then no appendage.
 pub fn judge_mass_cancel(s: &[u8]) -> Answer
-    ensures { result ≡ readAnswer massCancel s.now }
+    ensures { result ≡ read_answer mass_cancel s.now }
 {
     if is_framed(s, 25, b'M') {
         let account = bad_blank(s, 9, 6);
@@ -37,7 +37,7 @@ pub fn judge_mass_cancel(s: &[u8]) -> Answer
 
 pub fn parse_mass_cancel(s: &[u8]) -> MassCancel
     requires { length s.now ≡ 25 }
-    ensures { result ≡ massCancelOf s.now }
+    ensures { result ≡ mass_cancel_of s.now }
 {
     MassCancel {
         user_reference: octets::be32(s, 1),
@@ -49,7 +49,7 @@ pub fn parse_mass_cancel(s: &[u8]) -> MassCancel
 }
 
 pub fn read_mass_cancel(s: &[u8]) -> MassCancelRead
-    ensures { result ≡ readMassCancel s.now }
+    ensures { result ≡ read_mass_cancel s.now }
 {
     let answer = judge_mass_cancel(s);
     let zeros = [0u8; 25];

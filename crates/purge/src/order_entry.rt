@@ -1,8 +1,8 @@
 // Disable and Enable Order Entry Request (D and E, 15 bytes): a firm's new orders are kept out, or let in again. The two differ in their type
 // alone, so all but the last two functions are said of either.
 ghost use Rattle.std.specs.Prelude.{◌≡◌, length};
-ghost use Rattle.wire.specs.Messages.{readAnswer};
-ghost use Rattle.purge.specs.Purge.{orderEntry, orderEntryOf, readOrderEntry, readDisable, readEnable};
+ghost use Rattle.wire.specs.Messages.{read_answer};
+ghost use Rattle.purge.specs.Purge.{order_entry, order_entry_of, read_order_entry, read_disable, read_enable};
 
 use answers::Answer;
 use wire::frame::taken;
@@ -28,7 +28,7 @@ pub struct OrderEntryRead {
 
 // Length and type, then a blank account.
 pub fn judge_order_entry(s: &[u8], letter: u8) -> Answer
-    ensures { result ≡ readAnswer (orderEntry letter) s.now }
+    ensures { result ≡ read_answer (order_entry letter) s.now }
 {
     if is_framed(s, 15, letter) {
         return answer_for(bad_blank(s, 9, 6), Answer::Done);
@@ -38,7 +38,7 @@ pub fn judge_order_entry(s: &[u8], letter: u8) -> Answer
 
 pub fn parse_order_entry(s: &[u8]) -> OrderEntry
     requires { length s.now ≡ 15 }
-    ensures { result ≡ orderEntryOf s.now }
+    ensures { result ≡ order_entry_of s.now }
 {
     OrderEntry {
         user_reference: octets::be32(s, 1),
@@ -48,7 +48,7 @@ pub fn parse_order_entry(s: &[u8]) -> OrderEntry
 }
 
 fn read_order_entry(s: &[u8], letter: u8) -> OrderEntryRead
-    ensures { result ≡ readOrderEntry letter s.now }
+    ensures { result ≡ read_order_entry letter s.now }
 {
     let answer = judge_order_entry(s, letter);
     let zeros = [0u8; 15];
@@ -57,13 +57,13 @@ fn read_order_entry(s: &[u8], letter: u8) -> OrderEntryRead
 }
 
 pub fn read_disable(s: &[u8]) -> OrderEntryRead
-    ensures { result ≡ readDisable s.now }
+    ensures { result ≡ read_disable s.now }
 {
     read_order_entry(s, DISABLE)
 }
 
 pub fn read_enable(s: &[u8]) -> OrderEntryRead
-    ensures { result ≡ readEnable s.now }
+    ensures { result ≡ read_enable s.now }
 {
     read_order_entry(s, ENABLE)
 }

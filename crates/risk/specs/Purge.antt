@@ -1,23 +1,23 @@
 -- w: a firm's orders are canceled, one with each entry (Ask 5).
 use Rattle.std.specs.Prelude.{not}
-use Rattle.octets.specs.Choice.{pick, firstOf◌, ◌⇒◌⨾◌}
-use Rattle.octets.specs.Bytes.{allAre}
+use Rattle.octets.specs.Choice.{pick, first_of◌, ◌⇒◌⨾◌}
+use Rattle.octets.specs.Bytes.{all_are}
 use Rattle.wire.specs.Letters.{space}
-use Rattle.orders.specs.Order.{isLive}
+use Rattle.orders.specs.Order.{is_live}
 use Rattle.rules.specs.Plan.{ignored}
-use Rattle.rules.specs.Replace.{canceledWhole}
-use Rattle.risk.specs.Listed.{ofListed}
+use Rattle.rules.specs.Replace.{canceled_whole}
+use Rattle.risk.specs.Listed.{of_listed}
 use Rattle.risk.specs.Types.{Purge, Header, Order, Wanted, Firm, Stock, Decision}
 
 -- the orders that have that firm, and that symbol unless it is eight spaces
-unfoldable pub wantedBy : Purge → Wanted
-wantedBy e = record { by = pick (allAre space e.symbol) Firm Stock; firm = e.firm; symbol = e.symbol }
+unfoldable pub wanted_by : Purge → Wanted
+wanted_by e = record { by = pick (all_are space e.symbol) Firm Stock; firm = e.firm; symbol = e.symbol }
 
 -- Canceled U for all open of the first of them that is live and not late, and the order is dead; with none left, ignored. It asks for no open day.
 -- (`o` is that order; noOrder if there is none.)
-unfoldable pub purgeRule : Header → Order → Purge → Decision
-purgeRule h o e =
-    ofListed h e.firm
+unfoldable pub purge_rule : Header → Order → Purge → Decision
+purge_rule h o e =
+    of_listed h e.firm
     (first_of
-    not (isLive o) ⇒ ignored
-    ⨾ canceledWhole o)
+    not (is_live o) ⇒ ignored
+    ⨾ canceled_whole o)

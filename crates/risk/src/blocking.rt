@@ -1,6 +1,6 @@
 // d n: a firm is blocked, or let in again.
 ghost use Rattle.std.specs.Prelude.{◌≡◌};
-ghost use Rattle.risk.specs.Blocking.{blockingRule};
+ghost use Rattle.risk.specs.Blocking.{blocking_rule};
 
 use answers::Answer;
 use header::Header;
@@ -10,7 +10,7 @@ use tape::entry::Blocking;
 
 // A firm may be blocked on any day, and twice.
 pub fn block(h: Header, e: Blocking, on: bool) -> Decision
-    ensures { result ≡ blockingRule h e on }
+    ensures { result ≡ blocking_rule h e on }
 {
     let firm = e.firm;
     if is_listed(h, firm) {

@@ -1,8 +1,8 @@
 // w: a firm's orders are canceled, one with each entry.
 ghost use Rattle.std.specs.Prelude.{◌≡◌};
-ghost use Rattle.octets.specs.Bytes.{allAre};
+ghost use Rattle.octets.specs.Bytes.{all_are};
 ghost use Rattle.wire.specs.Letters.{space};
-ghost use Rattle.risk.specs.Purge.{wantedBy, purgeRule};
+ghost use Rattle.risk.specs.Purge.{wanted_by, purge_rule};
 
 use answers::Answer;
 use header::Header;
@@ -15,14 +15,14 @@ use tape::entry::Purge;
 
 // Eight spaces name no symbol, and so all of them.
 fn names_all(symbol: [u8; 8]) -> bool
-    ensures { result ≡ allAre space symbol }
+    ensures { result ≡ all_are space symbol }
 {
     octets::are_all(&symbol, 0, 8, b' ')
 }
 
 // The orders that it is about.
 pub fn wanted_by(e: Purge) -> Wanted
-    ensures { result ≡ wantedBy e }
+    ensures { result ≡ wanted_by e }
 {
     let firm = e.firm;
     let symbol = e.symbol;
@@ -36,7 +36,7 @@ pub fn wanted_by(e: Purge) -> Wanted
 
 // `o` is the first of them that is live and not late.
 pub fn purge(h: Header, o: Order, e: Purge) -> Decision
-    ensures { result ≡ purgeRule h o e }
+    ensures { result ≡ purge_rule h o e }
 {
     let firm = e.firm;
     if !is_listed(h, firm) {

@@ -1,111 +1,111 @@
 -- O: an order is entered (What each entry does, O).
 use Rattle.std.specs.Prelude.{ℕ, min, Bool, not, ◌&&◌, ◌||◌, List, eqb}
-use Rattle.octets.specs.Choice.{pick, firstOf◌, ◌⇒◌⨾◌, among}
+use Rattle.octets.specs.Choice.{pick, first_of◌, ◌⇒◌⨾◌, among}
 use Rattle.octets.specs.Bytes.{zeros}
-use Rattle.wire.specs.Letters.{live, closed, firmNotListed, allRejected, invalidStock, stockHalted, notInThisCross, invalidDisplay, invalidPrice, aboveThreshold, invalidMinimum, displays, crosses, capacities, imbalanceOnly, noCross, otherCapacity}
-use Rattle.wire.specs.Limits.{tokenSize}
+use Rattle.wire.specs.Letters.{live, closed, firm_not_listed, all_rejected, invalid_stock, stock_halted, not_in_this_cross, invalid_display, invalid_price, above_threshold, invalid_minimum, displays, crosses, capacities, imbalance_only, no_cross, other_capacity}
+use Rattle.wire.specs.Limits.{token_size}
 use Rattle.wire.specs.Text.{shaped}
-use Rattle.wire.specs.Price.{goodPrice}
-use Rattle.wire.specs.Shares.{total, removed, ◌exceeds◌, ◌isBelow◌, ◌equals◌}
-use Rattle.orders.specs.Counts.{newCounts, openShares}
-use Rattle.orders.specs.Order.{isUsed}
-use Rattle.header.specs.Header.{isOpenDay}
-use Rattle.header.specs.Firms.{meantFirm, isListed, firmBlocked}
-use Rattle.stocks.specs.Standing.{isListed as isListedStock, isHalted}
-use Rattle.rules.specs.Limits.{longestTime, immediate}
+use Rattle.wire.specs.Price.{good_price}
+use Rattle.wire.specs.Shares.{total, removed, ◌exceeds◌, ◌is_below◌, ◌equals◌}
+use Rattle.orders.specs.Counts.{new_counts, open_shares}
+use Rattle.orders.specs.Order.{is_used}
+use Rattle.header.specs.Header.{is_open_day}
+use Rattle.header.specs.Firms.{meant_firm, is_listed, firm_blocked}
+use Rattle.stocks.specs.Standing.{is_listed as is_listed_stock, is_halted}
+use Rattle.rules.specs.Limits.{longest_time, immediate}
 use Rattle.rules.specs.Plan.{ignored, accepting, rejecting}
 use Rattle.rules.specs.Types.{Decision, Fault, Letter, Absent, Total, Removed, Price, Kept, Terms, Order, Header, Standing, EnterOrder}
 
 -- ---- faults that O and U share
 
 -- D: display not among A Y N P I M W, or I with cross N
-unfoldable pub badDisplay : ℕ → ℕ → Bool
-badDisplay display cross = not (among displays display) || (eqb display imbalanceOnly && eqb cross noCross)
+unfoldable pub bad_display : ℕ → ℕ → Bool
+bad_display display cross = not (among displays display) || (eqb display imbalance_only && eqb cross no_cross)
 
 -- X: price neither 1 to 1,999,999,900 nor 2,147,483,647 with cross O or C
-unfoldable pub badPrice : ℕ → ℕ → Bool
-badPrice price cross = not (goodPrice price cross)
+unfoldable pub bad_price : ℕ → ℕ → Bool
+bad_price price cross = not (good_price price cross)
 
 -- Z: shares 0 or not below threshold
-unfoldable pub badShares : Header → Total → Bool
-badShares h shares = (shares equals total 0) || not (shares isBelow h.threshold)
+unfoldable pub bad_shares : Header → Total → Bool
+bad_shares h shares = (shares equals total 0) || not (shares is_below h.threshold)
 
 -- N: minimum above 0 with time in force not 0, or above shares (those that are open)
-unfoldable pub badMinimum : Removed → ℕ → Removed → Bool
-badMinimum minimum time shares = ((minimum exceeds removed 0) && not (eqb time immediate)) || minimum exceeds shares
+unfoldable pub bad_minimum : Removed → ℕ → Removed → Bool
+bad_minimum minimum time shares = ((minimum exceeds removed 0) && not (eqb time immediate)) || minimum exceeds shares
 
 -- ---- the fault of an O: the first that applies
 
 -- the last three, those above; of an order as entered all shares are open
-unfoldable pub faultOfNumbers : Header → EnterOrder → Fault
-faultOfNumbers h e =
+unfoldable pub fault_of_numbers : Header → EnterOrder → Fault
+fault_of_numbers h e =
     first_of
-    badPrice e.price e.cross ⇒ Letter invalidPrice  -- X
-    ⨾ badShares h e.shares ⇒ Letter aboveThreshold  -- Z
-    ⨾ badMinimum e.minimum e.time (openShares (newCounts e.shares)) ⇒ Letter invalidMinimum  -- N
+    bad_price e.price e.cross ⇒ Letter invalid_price  -- X
+    ⨾ bad_shares h e.shares ⇒ Letter above_threshold  -- Z
+    ⨾ bad_minimum e.minimum e.time (open_shares (new_counts e.shares)) ⇒ Letter invalid_minimum  -- N
     ⨾ Absent (record { 0 = e.price })
 
 -- S: stock not 1 to 8 capitals then spaces, or not listed (Ask 2)
-unfoldable pub badStock : List ℕ → Standing → Bool
-badStock symbol stock = not (shaped symbol && isListedStock stock)
+unfoldable pub bad_stock : List ℕ → Standing → Bool
+bad_stock symbol stock = not (shaped symbol && is_listed_stock stock)
 
 -- day not open; firm not listed, and then whether it is blocked (Ask 5); stock, and then whether it is halted (Ask 2); cross not N O C; display; and then those
-unfoldable pub enterFault : Header → List ℕ → Standing → EnterOrder → Fault
-enterFault h firm stock e =
+unfoldable pub enter_fault : Header → List ℕ → Standing → EnterOrder → Fault
+enter_fault h firm stock e =
     first_of
-    not (isOpenDay h) ⇒ Letter closed  -- C
-    ⨾ not (isListed h firm) ⇒ Letter firmNotListed  -- L
-    ⨾ firmBlocked h firm ⇒ Letter allRejected  -- a
-    ⨾ badStock e.stock stock ⇒ Letter invalidStock  -- S
-    ⨾ isHalted stock ⇒ Letter stockHalted  -- H
-    ⨾ not (among crosses e.cross) ⇒ Letter notInThisCross  -- R
-    ⨾ badDisplay e.display e.cross ⇒ Letter invalidDisplay  -- D
-    ⨾ faultOfNumbers h e
+    not (is_open_day h) ⇒ Letter closed  -- C
+    ⨾ not (is_listed h firm) ⇒ Letter firm_not_listed  -- L
+    ⨾ firm_blocked h firm ⇒ Letter all_rejected  -- a
+    ⨾ bad_stock e.stock stock ⇒ Letter invalid_stock  -- S
+    ⨾ is_halted stock ⇒ Letter stock_halted  -- H
+    ⨾ not (among crosses e.cross) ⇒ Letter not_in_this_cross  -- R
+    ⨾ bad_display e.display e.cross ⇒ Letter invalid_display  -- D
+    ⨾ fault_of_numbers h e
 
 -- ---- the order as accepted
 
 -- what O and U bring anew: echoed, but time in force above 99,999 becomes 99,999
-unfoldable pub acceptedTerms : Price → ℕ → ℕ → ℕ → Removed → Terms
-acceptedTerms price time display sweep minimum =
-    record { price = price.0; time = min time longestTime; display = display; sweep = sweep; minimum = minimum }
+unfoldable pub accepted_terms : Price → ℕ → ℕ → ℕ → Removed → Terms
+accepted_terms price time display sweep minimum =
+    record { price = price.0; time = min time longest_time; display = display; sweep = sweep; minimum = minimum }
 
 -- capacity outside A P R becomes O
-unfoldable pub enteredKept : List ℕ → EnterOrder → Kept
-enteredKept firm e =
+unfoldable pub entered_kept : List ℕ → EnterOrder → Kept
+entered_kept firm e =
     record {
       stock = e.stock;
       firm = firm;
-      capacity = pick (among capacities e.capacity) e.capacity otherCapacity;
+      capacity = pick (among capacities e.capacity) e.capacity other_capacity;
       cross = e.cross;
     }
 
 -- live, fields echoed and so stored; it takes the next reference
-unfoldable pub enteredOrder : Header → List ℕ → EnterOrder → Price → Order
-enteredOrder h firm e price =
+unfoldable pub entered_order : Header → List ℕ → EnterOrder → Price → Order
+entered_order h firm e price =
     record {
       state = live;
       token = e.token;
       side = e.side;
-      shares = newCounts e.shares;
+      shares = new_counts e.shares;
       flags = 0;
       details = record {
-        kept = enteredKept firm e;
-        terms = acceptedTerms price e.time e.display e.sweep e.minimum;
+        kept = entered_kept firm e;
+        terms = accepted_terms price e.time e.display e.sweep e.minimum;
         reference = h.reference;
-        previous = zeros tokenSize;
+        previous = zeros token_size;
         spare = 0;
       };
     }
 
 -- the letter is sent in a Rejected Message and the token stored as R; if there is none, Accepted
-unfoldable pub enterOutcome : Header → List ℕ → EnterOrder → Fault → Decision
-enterOutcome h firm e (Letter reason) = rejecting e.token reason
-enterOutcome h firm e (Absent price) = accepting (enteredOrder h firm e price)
+unfoldable pub enter_outcome : Header → List ℕ → EnterOrder → Fault → Decision
+enter_outcome h firm e (Letter reason) = rejecting e.token reason
+enter_outcome h firm e (Absent price) = accepting (entered_order h firm e price)
 
 -- Used token: 1. A blank firm means, and so becomes, the default. (`found` is what the entry's token means so far, `stock` how its stock stands.)
-unfoldable pub enterRule : Header → Order → Standing → EnterOrder → Decision
-enterRule h found stock e =
-    let firm = meantFirm h e.firm in
+unfoldable pub enter_rule : Header → Order → Standing → EnterOrder → Decision
+enter_rule h found stock e =
+    let firm = meant_firm h e.firm in
     first_of
-    isUsed found ⇒ ignored
-    ⨾ enterOutcome h firm e (enterFault h firm stock e)
+    is_used found ⇒ ignored
+    ⨾ enter_outcome h firm e (enter_fault h firm stock e)

@@ -4,22 +4,22 @@
 --     added     what the first free record holds afterwards; no_order if it stays free
 --     numbered  whether the order that is changed or added has taken the next reference
 --     notice    what is told
---     stock     a listed stock and its state afterwards; noStock if every stock stays as it is (Ask 2)
+--     stock     a listed stock and its state afterwards; no_stock if every stock stays as it is (Ask 2)
 use Rattle.std.specs.Prelude.{ℕ, Bool, true, false, List}
-use Rattle.answers.specs.Answer.{isDone}
+use Rattle.answers.specs.Answer.{is_done}
 use Rattle.octets.specs.Bytes.{zeros}
-use Rattle.octets.specs.Choice.{firstOf◌, ◌⇒◌⨾◌}
-use Rattle.orders.specs.Order.{no_order, rejectedOrder}
+use Rattle.octets.specs.Choice.{first_of◌, ◌⇒◌⨾◌}
+use Rattle.orders.specs.Order.{no_order, rejected_order}
 use Rattle.rules.specs.Types.{Order, Answer, Begins, Nothing, Day, Block, StockState, Decision, Notice, Silent, Rejected, Accepted, Replaced, SystemEvent, Done, Ignored}
 
-abbrev pub noStock : StockState
-noStock = record { symbol = zeros 8; state = 0 }
+abbrev pub no_stock : StockState
+no_stock = record { symbol = zeros 8; state = 0 }
 
 abbrev pub decided : Answer → Begins → Order → Order → Bool → Notice → Decision
 decided answer begins changed added numbered notice =
     record {
       answer = answer;
-      plan = record { begins = begins; changed = changed; added = added; numbered = numbered; notice = notice; stock = noStock };
+      plan = record { begins = begins; changed = changed; added = added; numbered = numbered; notice = notice; stock = no_stock };
     }
 
 -- nothing changes and nothing is told
@@ -34,7 +34,7 @@ ignored = refused Ignored
 unfoldable pub allowed : Answer → Decision → Decision
 allowed answer d =
     first_of
-    isDone answer ⇒ d
+    is_done answer ⇒ d
     ⨾ refused answer
 
 -- ---- the plans
@@ -57,7 +57,7 @@ replacing old new = decided Done Nothing old new true Replaced
 
 -- a Rejected Message, and the token stored as R
 unfoldable pub rejecting : List ℕ → ℕ → Decision
-rejecting token reason = decided Done Nothing no_order (rejectedOrder token) false (Rejected reason)
+rejecting token reason = decided Done Nothing no_order (rejected_order token) false (Rejected reason)
 
 -- System Event, sets day
 unfoldable pub beginning : ℕ → ℕ → Decision

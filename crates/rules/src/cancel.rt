@@ -1,7 +1,7 @@
 // X: an order is cut down to an intended size. The size is a total that limits executions; the decrement that is told is a removed number.
 ghost use Rattle.std.specs.Prelude.{◌≡◌, ◌<◌};
-ghost use Rattle.orders.specs.Counts.{openShares};
-ghost use Rattle.rules.specs.Cancel.{newOpen, cancelIgnored, decrement, canceledOrder, lateCancel, cancelRule};
+ghost use Rattle.orders.specs.Counts.{open_shares};
+ghost use Rattle.rules.specs.Cancel.{new_open, cancel_ignored, decrement, canceled_order, late_cancel, cancel_rule};
 
 use crate::plan::{Decision, Notice, changing, refused};
 use answers::Answer;
@@ -13,14 +13,14 @@ use wire::shares::{Removed, Total};
 
 // What this size leaves open. It limits executions, and shares lost to self match are none: so executed alone is taken off.
 fn new_open(o: Order, size: Total) -> Removed
-    ensures { result ≡ newOpen o size }
+    ensures { result ≡ new_open o size }
 {
     let executed = o.shares.executed;
     size.less(executed)
 }
 
 fn cancel_ignored(o: Order, size: Total) -> bool
-    ensures { result ≡ cancelIgnored o size }
+    ensures { result ≡ cancel_ignored o size }
 {
     let present = open_shares(o.shares);
     !is_live(o) | !present.exceeds(new_open(o, size)) | is(o, Flag::Pending)
@@ -35,15 +35,15 @@ fn decrement(o: Order, size: Total) -> Removed
 
 // Liable falls by the decrement. What is left of it is executed, self-matched and the new open, which need not be added up.
 fn canceled_order(o: Order, size: Total) -> Order
-    requires { (newOpen o size).0 < (openShares o.shares).0 }
-    ensures { result ≡ canceledOrder o size }
+    requires { (new_open o size).0 < (open_shares o.shares).0 }
+    ensures { result ≡ canceled_order o size }
 {
     dead_if_spent(o, cut(o.shares, decrement(o, size)))
 }
 
 // While the order is late for its cross a cancel of all of it waits, and any other is told off once.
 fn late_cancel(o: Order, size: Total) -> Decision
-    ensures { result ≡ lateCancel o size }
+    ensures { result ≡ late_cancel o size }
 {
     if size.equals(Total(0)) {
         return changing(marked(o, Flag::Pending), Notice::CancelPending);
@@ -55,7 +55,7 @@ fn late_cancel(o: Order, size: Total) -> Decision
 }
 
 pub fn cancel(o: Order, e: CancelOrder) -> Decision
-    ensures { result ≡ cancelRule o e }
+    ensures { result ≡ cancel_rule o e }
 {
     if cancel_ignored(o, e.size) {
         return refused(Answer::Ignored);

@@ -1,11 +1,11 @@
 // O: an order is entered. The first fault, in the paper's order, is the letter of its Rejected Message.
 ghost use Rattle.std.specs.Prelude.{◌≡◌, not};
 ghost use Rattle.octets.specs.Choice.{◌⇒◌⨾◌};
-ghost use Rattle.wire.specs.Letters.{firmNotListed, allRejected, invalidStock, stockHalted};
-ghost use Rattle.header.specs.Firms.{isListed, firmBlocked};
-ghost use Rattle.stocks.specs.Standing.{isHalted};
+ghost use Rattle.wire.specs.Letters.{firm_not_listed, all_rejected, invalid_stock, stock_halted};
+ghost use Rattle.header.specs.Firms.{is_listed, firm_blocked};
+ghost use Rattle.stocks.specs.Standing.{is_halted};
 ghost use Rattle.rules.specs.Types.{Letter};
-ghost use Rattle.rules.specs.Enter.{badDisplay, badShares, badMinimum, faultOfNumbers, badStock, enterFault, acceptedTerms, enteredKept, enteredOrder, enterRule};
+ghost use Rattle.rules.specs.Enter.{bad_display, bad_shares, bad_minimum, fault_of_numbers, bad_stock, enter_fault, accepted_terms, entered_kept, entered_order, enter_rule};
 
 use crate::plan::{Decision, accepting, refused, rejecting};
 use answers::Answer;
@@ -32,20 +32,20 @@ pub enum Fault {
 
 // The faults that a replacement may have too are asked in functions of their own.
 pub(crate) fn bad_display(display: u8, cross: u8) -> bool
-    ensures { result ≡ badDisplay display cross }
+    ensures { result ≡ bad_display display cross }
 {
     !is_display(display) | ((display == b'I') & (cross == b'N'))
 }
 
 pub(crate) fn bad_shares(h: Header, shares: Total) -> bool
-    ensures { result ≡ badShares h shares }
+    ensures { result ≡ bad_shares h shares }
 {
     let threshold = h.threshold;
     shares.equals(Total(0)) | !shares.is_below(threshold)
 }
 
 pub(crate) fn bad_minimum(minimum: Removed, time: u32, shares: Removed) -> bool
-    ensures { result ≡ badMinimum minimum time shares }
+    ensures { result ≡ bad_minimum minimum time shares }
 {
     (minimum.exceeds(Removed(0)) & !(time == 0)) | minimum.exceeds(shares)
 }
@@ -61,7 +61,7 @@ fn first_fault(test: bool, letter: u8, later: Fault) -> Fault
 
 // X, Z and N. Of an order as entered all shares are open.
 fn fault_of_numbers(h: Header, e: EnterOrder) -> Fault
-    ensures { result ≡ faultOfNumbers h e }
+    ensures { result ≡ fault_of_numbers h e }
 {
     let shares = e.shares;
     let minimum = e.minimum;
@@ -81,7 +81,7 @@ fn fault_of_numbers(h: Header, e: EnterOrder) -> Fault
 
 // L and a.
 fn fault_of_firm(h: Header, firm: [u8; 4], later: Fault) -> Fault
-    ensures { result ≡ (not (isListed h firm) ⇒ Letter firmNotListed ⨾ firmBlocked h firm ⇒ Letter allRejected ⨾ later) }
+    ensures { result ≡ (not (is_listed h firm) ⇒ Letter firm_not_listed ⨾ firm_blocked h firm ⇒ Letter all_rejected ⨾ later) }
 {
     let a = first_fault(firm_blocked(h, firm), b'a', later);
     first_fault(!is_listed(h, firm), b'L', a)
@@ -89,7 +89,7 @@ fn fault_of_firm(h: Header, firm: [u8; 4], later: Fault) -> Fault
 
 // S and H.
 fn fault_of_stock(stock: [u8; 8], standing: Standing, later: Fault) -> Fault
-    ensures { result ≡ (badStock stock standing ⇒ Letter invalidStock ⨾ isHalted standing ⇒ Letter stockHalted ⨾ later) }
+    ensures { result ≡ (bad_stock stock standing ⇒ Letter invalid_stock ⨾ is_halted standing ⇒ Letter stock_halted ⨾ later) }
 {
     let good = is_shaped(&stock) & stocks::standing::is_listed(standing);
     first_fault(!good, b'S', first_fault(is_halted(standing), b'H', later))
@@ -97,7 +97,7 @@ fn fault_of_stock(stock: [u8; 8], standing: Standing, later: Fault) -> Fault
 
 // Asked from the last to the first, so that the first that applies is what is left.
 fn enter_fault(h: Header, firm: [u8; 4], standing: Standing, e: EnterOrder) -> Fault
-    ensures { result ≡ enterFault h firm standing e }
+    ensures { result ≡ enter_fault h firm standing e }
 {
     let stock = e.stock;
     let d = first_fault(
@@ -119,7 +119,7 @@ pub(crate) fn accepted_terms(
     sweep: u8,
     minimum: Removed,
 ) -> Terms
-    ensures { result ≡ acceptedTerms price time display sweep minimum }
+    ensures { result ≡ accepted_terms price time display sweep minimum }
 {
     let time = if time < LONGEST_TIME {
         time
@@ -136,7 +136,7 @@ pub(crate) fn accepted_terms(
 }
 
 fn entered_kept(firm: [u8; 4], e: EnterOrder) -> Kept
-    ensures { result ≡ enteredKept firm e }
+    ensures { result ≡ entered_kept firm e }
 {
     let stock = e.stock;
     let capacity = if is_capacity(e.capacity) {
@@ -153,7 +153,7 @@ fn entered_kept(firm: [u8; 4], e: EnterOrder) -> Kept
 }
 
 fn entered_order(h: Header, firm: [u8; 4], e: EnterOrder, price: Price) -> Order
-    ensures { result ≡ enteredOrder h firm e price }
+    ensures { result ≡ entered_order h firm e price }
 {
     let token = e.token;
     let shares = new_counts(e.shares);
@@ -177,7 +177,7 @@ fn entered_order(h: Header, firm: [u8; 4], e: EnterOrder, price: Price) -> Order
 
 // `found` is what the entry's token means so far, `standing` how its stock stands.
 pub fn enter(h: Header, found: Order, standing: Standing, e: EnterOrder) -> Decision
-    ensures { result ≡ enterRule h found standing e }
+    ensures { result ≡ enter_rule h found standing e }
 {
     if is_used(found) {
         return refused(Answer::Ignored);

@@ -1,6 +1,6 @@
 // M: the side of an order is changed, or its shares are cut. What would change nothing is ignored.
 ghost use Rattle.std.specs.Prelude.{◌≡◌};
-ghost use Rattle.rules.specs.Modify.{sideAllowed, modifiedOrder, modifyIgnored, modifyRule};
+ghost use Rattle.rules.specs.Modify.{side_allowed, modified_order, modify_ignored, modify_rule};
 
 use crate::plan::{Decision, Notice, changing, refused};
 use answers::Answer;
@@ -12,13 +12,13 @@ use orders::order::{Order, dead_if_spent, is, is_live, with_side};
 use wire::letters::is_sell_side;
 
 fn side_allowed(before: u8, after: u8) -> bool
-    ensures { result ≡ sideAllowed before after }
+    ensures { result ≡ side_allowed before after }
 {
     (before == after) | (is_sell_side(before) & is_sell_side(after))
 }
 
 fn modify_ignored(h: Header, o: Order, e: ModifyOrder) -> bool
-    ensures { result ≡ modifyIgnored h o e }
+    ensures { result ≡ modify_ignored h o e }
 {
     let liable = o.shares.liable;
     !is_live(o)
@@ -31,13 +31,13 @@ fn modify_ignored(h: Header, o: Order, e: ModifyOrder) -> bool
 }
 
 fn modified_order(o: Order, e: ModifyOrder) -> Order
-    ensures { result ≡ modifiedOrder o e }
+    ensures { result ≡ modified_order o e }
 {
     dead_if_spent(with_side(o, e.side), with_liable(o.shares, e.shares))
 }
 
 pub fn modify(h: Header, o: Order, e: ModifyOrder) -> Decision
-    ensures { result ≡ modifyRule h o e }
+    ensures { result ≡ modify_rule h o e }
 {
     if modify_ignored(h, o, e) {
         return refused(Answer::Ignored);

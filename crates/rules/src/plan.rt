@@ -1,6 +1,6 @@
 // What a rule decides. The rules know neither bytes nor the ring: a plan is values only.
 ghost use Rattle.std.specs.Prelude.{◌≡◌};
-ghost use Rattle.rules.specs.Plan.{noStock, decided, refused, changing, renumbering, accepting, replacing, rejecting, beginning, blocking, setting};
+ghost use Rattle.rules.specs.Plan.{no_stock, decided, refused, changing, renumbering, accepting, replacing, rejecting, beginning, blocking, setting};
 
 use answers::Answer;
 use orders::order::{Order, no_order, rejected_order};
@@ -56,7 +56,7 @@ pub struct Decision {
 }
 
 fn no_stock() -> StockState
-    ensures { result ≡ noStock }
+    ensures { result ≡ no_stock }
 {
     StockState {
         symbol: [0u8; 8],

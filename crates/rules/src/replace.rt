@@ -1,6 +1,6 @@
 // U: a live order is replaced by another under a new token. The Shares sent in are a total: what is gone of the chain counts against them.
 ghost use Rattle.std.specs.Prelude.{◌≡◌};
-ghost use Rattle.rules.specs.Replace.{badBesidePrice, replacementOrder, canceledWhole, replaceOpen, replaceRule};
+ghost use Rattle.rules.specs.Replace.{bad_beside_price, replacement_order, canceled_whole, replace_open, replace_rule};
 
 use crate::enter::{accepted_terms, bad_display, bad_minimum, bad_shares};
 use crate::plan::{Decision, Notice, changing, refused, rejecting, replacing};
@@ -14,7 +14,7 @@ use stocks::standing::{Standing, is_halted};
 use wire::price::{Price, Priced};
 
 fn bad_beside_price(h: Header, old: Order, e: ReplaceOrder) -> bool
-    ensures { result ≡ badBesidePrice h old e }
+    ensures { result ≡ bad_beside_price h old e }
 {
     let minimum = e.minimum;
     let new_open = less_gone(e.shares, old.shares);
@@ -25,7 +25,7 @@ fn bad_beside_price(h: Header, old: Order, e: ReplaceOrder) -> bool
 }
 
 fn replacement_order(h: Header, old: Order, e: ReplaceOrder, price: Price) -> Order
-    ensures { result ≡ replacementOrder h old e price }
+    ensures { result ≡ replacement_order h old e price }
 {
     let token = e.replacement;
     let shares = with_liable(old.shares, e.shares);
@@ -51,7 +51,7 @@ fn replacement_order(h: Header, old: Order, e: ReplaceOrder, price: Price) -> Or
 
 // All that is open is canceled. A replacement with bad details comes to this, and its own token stays free; so does a purge.
 pub fn canceled_whole(old: Order) -> Decision
-    ensures { result ≡ canceledWhole old }
+    ensures { result ≡ canceled_whole old }
 {
     let by = open_shares(old.shares);
     changing(killed(old), Notice::Canceled(by, b'U'))
@@ -59,7 +59,7 @@ pub fn canceled_whole(old: Order) -> Decision
 
 // Of a live order on an open day that is not late, in a stock that is not halted.
 fn replace_open(h: Header, old: Order, e: ReplaceOrder) -> Decision
-    ensures { result ≡ replaceOpen h old e }
+    ensures { result ≡ replace_open h old e }
 {
     if bad_beside_price(h, old, e) {
         return canceled_whole(old);
@@ -72,7 +72,7 @@ fn replace_open(h: Header, old: Order, e: ReplaceOrder) -> Decision
 
 // `old` is what the existing token means, `found` what the replacement token means so far, `standing` how the old stock stands.
 pub fn replace(h: Header, old: Order, found: Order, standing: Standing, e: ReplaceOrder) -> Decision
-    ensures { result ≡ replaceRule h old found standing e }
+    ensures { result ≡ replace_rule h old found standing e }
 {
     if !is_live(old) | is_used(found) {
         return refused(Answer::Ignored);

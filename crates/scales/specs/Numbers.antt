@@ -11,11 +11,11 @@ use Rattle.stocks.specs.declared.standing.Standing.TheVariants.{Trading, Halted,
 abbrev pub marks : ℕ → ℕ → Marks
 marks at held = record { at = at; held = held }
 
-abbrev pub standingNumber : Standing → ℕ
-standingNumber Unlisted = 0
-standingNumber Trading = 1
-standingNumber Halted = 2
+abbrev pub standing_number : Standing → ℕ
+standing_number Unlisted = 0
+standing_number Trading = 1
+standing_number Halted = 2
 
 -- by the firm alone where the number is 0, else by the stock as well
-unfoldable pub wantedGiven : List ℕ → List ℕ → ℕ → Wanted
-wantedGiven firm symbol stocked = record { by = pick (eqb stocked 0) Firm Stock; firm = firm; symbol = symbol }
+unfoldable pub wanted_given : List ℕ → List ℕ → ℕ → Wanted
+wanted_given firm symbol stocked = record { by = pick (eqb stocked 0) Firm Stock; firm = firm; symbol = symbol }

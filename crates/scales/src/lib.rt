@@ -1,14 +1,14 @@
 // Six functions behind a C door of their own, for the benchmark to weigh by themselves: a step does all of this and more, and the host's door
 // calls none of them.
 ghost use Rattle.std.specs.Prelude.{◌≡◌, true, length};
-ghost use Rattle.answers.specs.Answer.{answerNumber};
-ghost use Rattle.outbox.specs.Outbox.{putMoved, putRing};
-ghost use Rattle.stocks.specs.Limits.{symbolSize};
-ghost use Rattle.stocks.specs.Stocks.{listGood, standingIn};
-ghost use Rattle.orders.specs.Wanted.{isWanted};
-ghost use Rattle.table.specs.Table.{sound, place_of, firstMarked};
+ghost use Rattle.answers.specs.Answer.{answer_number};
+ghost use Rattle.outbox.specs.Outbox.{put_moved, put_ring};
+ghost use Rattle.stocks.specs.Limits.{symbol_size};
+ghost use Rattle.stocks.specs.Stocks.{list_good, standing_in};
+ghost use Rattle.orders.specs.Wanted.{is_wanted};
+ghost use Rattle.table.specs.Table.{sound, place_of, first_marked};
 ghost use Rattle.octets.specs.Choice.{pick};
-ghost use Rattle.scales.specs.Numbers.{marks, standingNumber, wantedGiven};
+ghost use Rattle.scales.specs.Numbers.{marks, standing_number, wanted_given};
 
 use answers::number;
 use orders::wanted::{By, Wanted};
@@ -46,7 +46,7 @@ pub extern "C" fn pq_find_wanted(
     symbol: &[u8; 8],
     stocked: u8,
 ) -> usize
-    ensures { result ≡ firstMarked table.now (isWanted (wantedGiven firm.now symbol.now stocked)) }
+    ensures { result ≡ first_marked table.now (is_wanted (wanted_given firm.now symbol.now stocked)) }
 {
     let firm = *firm;
     let symbol = *symbol;
@@ -73,7 +73,7 @@ pub extern "C" fn pq_find_wanted(
 // A message behind the held bytes; the caller counts them.
 #[unsafe(no_mangle)]
 pub extern "C" fn pq_put(ring: &mut [u8], at: usize, held: usize, message: &[u8]) -> u8
-    ensures { (result ≡ answerNumber (putMoved (length ring.old) (marks at held) (length message.now)).answer) × (ring.new ≡ putRing ring.old (marks at held) message.now) }
+    ensures { (result ≡ answer_number (put_moved (length ring.old) (marks at held) (length message.now)).answer) × (ring.new ≡ put_ring ring.old (marks at held) message.now) }
 {
     let moved = put(ring, Marks { at, held }, message);
     let answer = moved.answer;
@@ -83,7 +83,7 @@ pub extern "C" fn pq_put(ring: &mut [u8], at: usize, held: usize, message: &[u8]
 // 1 for a right list of stocks, and 0.
 #[unsafe(no_mangle)]
 pub extern "C" fn pq_stocks_good(stocks: &[u8]) -> u8
-    ensures { result ≡ pick (listGood stocks.now) 1 0 }
+    ensures { result ≡ pick (list_good stocks.now) 1 0 }
 {
     if list_good(stocks) { 1 } else { 0 }
 }
@@ -91,8 +91,8 @@ pub extern "C" fn pq_stocks_good(stocks: &[u8]) -> u8
 // How a symbol of eight bytes stands in a list that was judged: 0 where it is not listed, 1 where it trades, 2 where it is halted.
 #[unsafe(no_mangle)]
 pub extern "C" fn pq_standing(stocks: &[u8], symbol: &[u8]) -> u8
-    requires { (listGood stocks.now ≡ true) × (length symbol.now ≡ symbolSize) }
-    ensures { result ≡ standingNumber (standingIn stocks.now symbol.now) }
+    requires { (list_good stocks.now ≡ true) × (length symbol.now ≡ symbol_size) }
+    ensures { result ≡ standing_number (standing_in stocks.now symbol.now) }
 {
     let eight = octets::bytes8_at(symbol, 0);
     match standing(stocks, eight) {

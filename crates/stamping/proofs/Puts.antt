@@ -3,8 +3,8 @@ use Rattle.octets.proofs.Proving.{List, ◌++◌, ◌+◌, ◌<◌, ◌∙◌, �
 use Rattle.octets.specs.Bytes.{part, put, digits}
 use Rattle.octets.proofs.Laws.{digits-byte, length_digits, length_part, length-put, put-put}
 use Rattle.answers.specs.declared.Answer.TheVariants.{Done}
-use Rattle.purge.specs.Purge.{massCancel}
-use Rattle.stamping.specs.Stamping.{heard, bodyFor}
+use Rattle.purge.specs.Purge.{mass_cancel}
+use Rattle.stamping.specs.Stamping.{heard, body_for}
 use Rattle.stamping.proofs.Which.{purge-long, mass-long, firm-and-symbol}
 
 -- n bytes at the front, and what is put behind them
@@ -25,15 +25,15 @@ front_long kind stamp body = omega (arith, length-append (digits 8 stamp) body, 
 
 -- ---- of the purge port
 
-pub firm-fits : (m : List ℕ) → heard true m ≡ Done → 4 ≤ length (bodyFor true m)
-unfolding bodyFor
+pub firm-fits : (m : List ℕ) → heard true m ≡ Done → 4 ≤ length (body_for true m)
+unfolding body_for
 firm-fits m done =
     let firm = length_part m 5 4 (omega (arith, purge-long m done)) in
-    guard (λ (xs : List ℕ). 4 ≤ length xs) (eqb (get_or m 0 0) massCancel.code)
+    guard (λ (xs : List ℕ). 4 ≤ length xs) (eqb (get_or m 0 0) mass_cancel.code)
     (λ e. omega (arith, firm, length-append (part m 5 4) (part m 15 8))) (λ e. omega (arith, firm))
 
 -- a Mass Cancel, once its firm is put
-module _ (t m : List ℕ) (kind stamp : ℕ) (done : heard true m ≡ Done) (typed : get_or m 0 0 ≡ massCancel.code) (room : 9 + length (bodyFor true m) ≤ length t)
+module _ (t m : List ℕ) (kind stamp : ℕ) (done : heard true m ≡ Done) (typed : get_or m 0 0 ≡ mass_cancel.code) (room : 9 + length (body_for true m) ≤ length t)
     {a : List ℕ} (e : a ≡ put t 0 (kind ∷ (digits 8 stamp ++ part m 5 4))) where
   firm-long : length (part m 5 4) ≡ 4
   firm-long = length_part m 5 4 (omega (arith, mass-long m done typed))
@@ -46,7 +46,7 @@ module _ (t m : List ℕ) (kind stamp : ℕ) (done : heard true m ≡ Done) (typ
       let long = front_long kind stamp (part m 5 4) in
       omega (arith, symbol-room, ap length e, length-put t 0 (kind ∷ (digits 8 stamp ++ part m 5 4)) (omega (arith, long, firm-long, symbol-room)))
 
-  pub symbol-put : {b : List ℕ} → b ≡ put a 13 (part m 15 8) → b ≡ put t 0 (kind ∷ (digits 8 stamp ++ bodyFor true m))
+  pub symbol-put : {b : List ℕ} → b ≡ put a 13 (part m 15 8) → b ≡ put t 0 (kind ∷ (digits 8 stamp ++ body_for true m))
   symbol-put f =
       behind t (kind ∷ (digits 8 stamp ++ part m 5 4)) (part m 15 8) 13 (omega (arith, front_long kind stamp (part m 5 4), firm-long)) symbol-room e f
       ∙ ap (λ (l : List ℕ). put t 0 (kind ∷ l)) (append_assoc (digits 8 stamp) (part m 5 4) (part m 15 8))

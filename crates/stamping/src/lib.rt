@@ -3,7 +3,7 @@
 ghost use Rattle.std.specs.Prelude.{◌≡◌, true, false, ◌∷◌, ◌++◌, ◌+◌, ◌≤◌, length};
 ghost use Rattle.octets.specs.Bytes.{put, digits};
 ghost use Rattle.answers.specs.declared.Answer.TheVariants.{Done};
-ghost use Rattle.stamping.specs.Stamping.{heard, kindFor, bodyFor, stampAnswer, stampAfter};
+ghost use Rattle.stamping.specs.Stamping.{heard, kind_for, body_for, stamp_answer, stamp_after};
 
 use answers::{Answer, is_done};
 use octets::{put_be64, put_byte, put_bytes};
@@ -15,7 +15,7 @@ use wire::messages::{CANCEL_ORDER, ENTER_ORDER, MODIFY_ORDER, REPLACE_ORDER, fir
 
 // What the purge port took, or else a client's message to the host. Only a call that answers 0 changes anything.
 pub fn stamped(purge: bool, stamp: u64, message: &[u8], entry: &mut [u8]) -> Answer
-    ensures { (result ≡ stampAnswer purge stamp message.now entry.old) × (entry.new ≡ stampAfter purge stamp message.now entry.old) }
+    ensures { (result ≡ stamp_answer purge stamp message.now entry.old) × (entry.new ≡ stamp_after purge stamp message.now entry.old) }
 {
     let answer = heard(purge, message);
     if is_done(answer) {
@@ -61,7 +61,7 @@ fn heard_by_host(message: &[u8]) -> Answer
 
 // The kind under which a message of this type goes.
 fn kind_for(purge: bool, letter: u8) -> u8
-    ensures { result ≡ kindFor purge letter }
+    ensures { result ≡ kind_for purge letter }
 {
     if purge {
         return match letter {
@@ -76,7 +76,7 @@ fn kind_for(purge: bool, letter: u8) -> u8
 // The entry of a message that was judged, where there is room for it.
 fn made(purge: bool, stamp: u64, message: &[u8], entry: &mut [u8]) -> Answer
     requires { heard purge message.now ≡ Done }
-    ensures { (result ≡ stampAnswer purge stamp message.now entry.old) × (entry.new ≡ stampAfter purge stamp message.now entry.old) }
+    ensures { (result ≡ stamp_answer purge stamp message.now entry.old) × (entry.new ≡ stamp_after purge stamp message.now entry.old) }
 {
     let kind = kind_for(purge, first_byte(message));
     if entry.len() < entry_length(kind) {
@@ -92,8 +92,8 @@ fn made(purge: bool, stamp: u64, message: &[u8], entry: &mut [u8]) -> Answer
 
 // The firm, and of a Mass Cancel the symbol behind it.
 fn put_purge(entry: &mut [u8], kind: u8, stamp: u64, message: &[u8])
-    requires { (heard true message.now ≡ Done) × (9 + length (bodyFor true message.now) ≤ length entry.old) }
-    ensures { entry.new ≡ put entry.old 0 (kind ∷ (digits 8 stamp ++ bodyFor true message.now)) }
+    requires { (heard true message.now ≡ Done) × (9 + length (body_for true message.now) ≤ length entry.old) }
+    ensures { entry.new ≡ put entry.old 0 (kind ∷ (digits 8 stamp ++ body_for true message.now)) }
 {
     put_entry(entry, kind, stamp, &message[5..9]);
     if first_byte(message) == b'M' {

@@ -5,8 +5,8 @@ use Rattle.octets.specs.Choice.{pick}
 use Rattle.octets.specs.Bytes.{number_of}
 use Rattle.octets.proofs.Laws.{length_part, part_bytes}
 use Rattle.octets.proofs.First.{first-only, none_only}
-use Rattle.stocks.specs.Limits.{symbolSize, placeSize}
-use Rattle.stocks.specs.Stocks.{placesIn, symbol_at, listGood, hasSymbol, place_of}
+use Rattle.stocks.specs.Limits.{symbol_size, place_size}
+use Rattle.stocks.specs.Stocks.{places_in, symbol_at, list_good, has_symbol, place_of}
 use Rattle.wire.specs.Legal.{Bytes}
 use Rattle.stocks.specs.Ranks.{rank_at, LastNotAbove}
 use Rattle.stocks.proofs.Order.{numbers-agree}
@@ -73,46 +73,46 @@ closed l rank n base size left none here =
 
 -- ---- the key law
 
-module _ (l symbol : List ℕ) (bytes : Bytes l) (symbol-bytes : Bytes symbol) (eight : length symbol ≡ symbolSize) (good : listGood l ≡ true)
-    (r : ℕ) (e : LastNotAbove l (number_of symbol) (placesIn l) r)
+module _ (l symbol : List ℕ) (bytes : Bytes l) (symbol-bytes : Bytes symbol) (eight : length symbol ≡ symbol_size) (good : list_good l ≡ true)
+    (r : ℕ) (e : LastNotAbove l (number_of symbol) (places_in l) r)
   where
     -- a place has the symbol where it has its number
-    same_rank : (j : ℕ) → j < placesIn l → eqb (rank_at l j) (number_of symbol) ≡ hasSymbol l symbol j
-    unfolding rank_at symbol_at hasSymbol
+    same_rank : (j : ℕ) → j < places_in l → eqb (rank_at l j) (number_of symbol) ≡ has_symbol l symbol j
+    unfolding rank_at symbol_at has_symbol
     same_rank j h =
-        let room : placeSize * j + symbolSize ≤ length l = omega (arith, good-size l good) in
-        (numbers-agree (symbol_at l j) symbol (length_part l (placeSize * j) symbolSize room ∙ sym eight)
-        (part_bytes l bytes (placeSize * j) symbolSize) symbol-bytes).equal
+        let room : place_size * j + symbol_size ≤ length l = omega (arith, good-size l good) in
+        (numbers-agree (symbol_at l j) symbol (length_part l (place_size * j) symbol_size room ∙ sym eight)
+        (part_bytes l bytes (place_size * j) symbol_size) symbol-bytes).equal
 
-    differs : (j : ℕ) → j < placesIn l → (rank_at l j ≡ number_of symbol → ⊥) → hasSymbol l symbol j ≡ false
+    differs : (j : ℕ) → j < places_in l → (rank_at l j ≡ number_of symbol → ⊥) → has_symbol l symbol j ≡ false
     differs j h d = sym (same_rank j h) ∙ ne_eqb _ _ d
 
     abbrev rank : ℕ
     rank = number_of symbol
 
-    abbrev rising : Ascending (rank_at l) (placesIn l)
+    abbrev rising : Ascending (rank_at l) (places_in l)
     rising = good-ascending l bytes good
 
     -- the place so found has it
     pub found : rank_at l r ≡ rank → r ≡ place_of l symbol
     unfolding place_of
     found q =
-        sym (first-only (hasSymbol l symbol) (placesIn l) r
+        sym (first-only (has_symbol l symbol) (places_in l) r
         (record {
           below = e.0;
           holds = sym (same_rank r e.0) ∙ eq-eqb _ _ q;
-          none_before = λ j b. differs j (omega (arith, e.0)) (λ d. omega (arith, d, q, ascends (rank_at l) (placesIn l) rising j r b e.0));
+          none_before = λ j b. differs j (omega (arith, e.0)) (λ d. omega (arith, d, q, ascends (rank_at l) (places_in l) rising j r b e.0));
         }))
 
     -- it has not, and so no place has
-    pub missed : (rank_at l r ≡ rank → ⊥) → placesIn l ≡ place_of l symbol
+    pub missed : (rank_at l r ≡ rank → ⊥) → places_in l ≡ place_of l symbol
     unfolding place_of
-    missed no-r = sym (none_only (hasSymbol l symbol) (placesIn l) (λ j h. differs j h (other j h)))
+    missed no-r = sym (none_only (has_symbol l symbol) (places_in l) (λ j h. differs j h (other j h)))
       where
-        other : (j : ℕ) → j < placesIn l → rank_at l j ≡ rank → ⊥
+        other : (j : ℕ) → j < places_in l → rank_at l j ≡ rank → ⊥
         other j h d =
             elim (dec_lt j r) [
-              | yes b ↦ omega (arith, d, e.1 (omega arith), ascends (rank_at l) (placesIn l) rising j r b e.0)
+              | yes b ↦ omega (arith, d, e.1 (omega arith), ascends (rank_at l) (places_in l) rising j r b e.0)
               | no b ↦ elim (ℕ_discrete j r) [
                 | yes q ↦ no-r (ap (rank_at l) (sym q) ∙ d)
                 | no q ↦ omega (arith, d, e.2 j (omega arith) h)

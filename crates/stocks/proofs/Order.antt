@@ -1,13 +1,13 @@
 -- Numbers are in the order of bytes: of two texts of one length, the numbers that they spell compare as the first bytes that differ. Assumes
 -- nothing.
 use Rattle.octets.proofs.Proving.{Bool, List, [], ◌&&◌, ◌*◌, ◌+◌, ◌<◌, ◌||◌, ◌∙◌, ◌∷◌, ◌≡◌, ap, ap₂, arith, dec_lt, eq-eqb, eqb, le-ltb, length, lt-ltb, ltb, ne_eqb, refl, suc, sym, ℕ}
-use Rattle.octets.specs.Bytes.{numberFrom, number_of, same}
+use Rattle.octets.specs.Bytes.{number_from, number_of, same}
 use Rattle.stocks.specs.Stocks.{◌before◌}
 use Rattle.wire.specs.Legal.{Bytes}
 
 -- what is lower stays lower, whatever bytes follow
-lower : (v w : ℕ) (xs ys : List ℕ) → length xs ≡ length ys → Bytes xs → v < w → numberFrom v xs < numberFrom w ys
-unfolding numberFrom
+lower : (v w : ℕ) (xs ys : List ℕ) → length xs ≡ length ys → Bytes xs → v < w → number_from v xs < number_from w ys
+unfolding number_from
 lower v w [] [] e a h = h
 lower v w [] (y ∷ ys) e a h = absurd (omega arith)
 lower v w (x ∷ xs) [] e a h = absurd (omega arith)
@@ -23,10 +23,10 @@ pub record Agrees (p q : ℕ) (xs ys : List ℕ) : Type 0 where
 -- by what the first bytes are: lower, higher or equal
 module _ (v x y : ℕ) (xs ys : List ℕ) (long : length xs ≡ length ys) (a : Bytes (x ∷ xs)) (b : Bytes (y ∷ ys)) where
   abbrev p : ℕ
-  p = numberFrom (v * 256 + x) xs
+  p = number_from (v * 256 + x) xs
 
   abbrev q : ℕ
-  q = numberFrom (v * 256 + y) ys
+  q = number_from (v * 256 + y) ys
 
   by-lower : x < y → Agrees p q (x ∷ xs) (y ∷ ys)
   unfolding ◌before◌ same
@@ -47,18 +47,18 @@ module _ (v x y : ℕ) (xs ys : List ℕ) (long : length xs ≡ length ys) (a : 
         equal = ne_eqb p q (λ e. omega (arith, s, e)) ∙ sym (ap (λ (t : Bool). t && same xs ys) apart);
       }
 
-  by_equal : x ≡ y → Agrees (numberFrom (v * 256 + y) xs) q xs ys → Agrees p q (x ∷ xs) (y ∷ ys)
+  by_equal : x ≡ y → Agrees (number_from (v * 256 + y) xs) q xs ys → Agrees p q (x ∷ xs) (y ∷ ys)
   unfolding ◌before◌ same
   by_equal e rest =
       let alike = eq-eqb x y e in
       record {
-        order = ap (λ (z : ℕ). ltb (numberFrom (v * 256 + z) xs) q) e ∙ rest.order
+        order = ap (λ (z : ℕ). ltb (number_from (v * 256 + z) xs) q) e ∙ rest.order
             ∙ sym (ap₂ (λ (t u : Bool). t || (u && (xs before ys))) (le-ltb x y (omega (arith, e))) alike);
-        equal = ap (λ (z : ℕ). eqb (numberFrom (v * 256 + z) xs) q) e ∙ rest.equal ∙ sym (ap (λ (t : Bool). t && same xs ys) alike);
+        equal = ap (λ (z : ℕ). eqb (number_from (v * 256 + z) xs) q) e ∙ rest.equal ∙ sym (ap (λ (t : Bool). t && same xs ys) alike);
       }
 
-agrees : (v : ℕ) (xs ys : List ℕ) → length xs ≡ length ys → Bytes xs → Bytes ys → Agrees (numberFrom v xs) (numberFrom v ys) xs ys
-unfolding numberFrom ◌before◌ same
+agrees : (v : ℕ) (xs ys : List ℕ) → length xs ≡ length ys → Bytes xs → Bytes ys → Agrees (number_from v xs) (number_from v ys) xs ys
+unfolding number_from ◌before◌ same
 agrees v [] [] e a b = record { order = le-ltb v v (omega arith); equal = eq-eqb v v refl }
 agrees v [] (y ∷ ys) e a b = absurd (omega arith)
 agrees v (x ∷ xs) [] e a b = absurd (omega arith)

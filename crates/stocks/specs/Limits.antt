@@ -1,12 +1,12 @@
 -- How long a list of stocks and its places are (Ask 2), each number once.
 use Rattle.std.specs.Prelude.{ℕ}
 
-abbrev pub symbolSize : ℕ
-symbolSize = 8
+abbrev pub symbol_size : ℕ
+symbol_size = 8
 
 -- a symbol and its state
-abbrev pub placeSize : ℕ
-placeSize = 9
+abbrev pub place_size : ℕ
+place_size = 9
 
-abbrev pub mostPlaces : ℕ
-mostPlaces = 2_000
+abbrev pub most_places : ℕ
+most_places = 2_000

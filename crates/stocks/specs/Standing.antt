@@ -3,13 +3,13 @@ use Rattle.std.specs.Prelude.{Bool, true, false}
 pub use Rattle.stocks.specs.declared.standing.Standing.{Standing}
 pub use Rattle.stocks.specs.declared.standing.Standing.TheVariants.{Trading, Halted, Unlisted}
 
-abbrev pub isListed : Standing → Bool
-isListed Trading = true
-isListed Halted = true
-isListed Unlisted = false
+abbrev pub is_listed : Standing → Bool
+is_listed Trading = true
+is_listed Halted = true
+is_listed Unlisted = false
 
 -- an unlisted stock isn't halted
-abbrev pub isHalted : Standing → Bool
-isHalted Trading = false
-isHalted Halted = true
-isHalted Unlisted = false
+abbrev pub is_halted : Standing → Bool
+is_halted Trading = false
+is_halted Halted = true
+is_halted Unlisted = false

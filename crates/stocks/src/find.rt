@@ -1,9 +1,9 @@
 // Where a symbol stands in a list that was judged, found by halving.
 ghost use Rattle.std.specs.Prelude.{◌≡◌, true, ◌+◌, ◌*◌, ◌<◌, ◌≤◌, leb, length};
 ghost use Rattle.octets.specs.Choice.{pick};
-ghost use Rattle.stocks.specs.Limits.{symbolSize, placeSize};
+ghost use Rattle.stocks.specs.Limits.{symbol_size, place_size};
 ghost use Rattle.stocks.specs.Ranks.{rank_at, LastNotAbove};
-ghost use Rattle.stocks.specs.Stocks.{listGood, placesIn, place_of, standingIn};
+ghost use Rattle.stocks.specs.Stocks.{list_good, places_in, place_of, standing_in};
 
 use crate::places::{PLACE_SIZE, SYMBOL_SIZE, rank, rank_at};
 use crate::standing::Standing;
@@ -13,7 +13,7 @@ const HALVINGS: usize = 11;
 
 // The base after a halving: half a size on where the place there is not above the symbol.
 fn moved(list: &[u8], symbol: u64, base: usize, half: usize) -> usize
-    requires { placeSize * (base + half) + symbolSize ≤ length list.now }
+    requires { place_size * (base + half) + symbol_size ≤ length list.now }
     ensures { result ≡ pick (leb (rank_at list.now (base + half)) symbol) (base + half) base }
 {
     let middle = base + half;
@@ -25,7 +25,7 @@ fn moved(list: &[u8], symbol: u64, base: usize, half: usize) -> usize
 
 // The last of the first n places that is not above the symbol; the first place where all are above it.
 fn last_not_above(list: &[u8], symbol: u64, n: usize) -> usize
-    requires { (listGood list.now ≡ true) × ((0 < n) × (n ≡ placesIn list.now)) }
+    requires { (list_good list.now ≡ true) × ((0 < n) × (n ≡ places_in list.now)) }
     ensures { LastNotAbove list.now symbol n result }
 {
     let mut base: usize = 0;
@@ -42,7 +42,7 @@ fn last_not_above(list: &[u8], symbol: u64, n: usize) -> usize
 
 // The symbol's place; the number of places where none has it.
 pub(crate) fn place_of(list: &[u8], symbol: [u8; 8]) -> usize
-    requires { listGood list.now ≡ true }
+    requires { list_good list.now ≡ true }
     ensures { result ≡ place_of list.now symbol }
 {
     let n = list.len() / PLACE_SIZE;
@@ -58,8 +58,8 @@ pub(crate) fn place_of(list: &[u8], symbol: [u8; 8]) -> usize
 }
 
 pub fn standing(list: &[u8], symbol: [u8; 8]) -> Standing
-    requires { listGood list.now ≡ true }
-    ensures { result ≡ standingIn list.now symbol }
+    requires { list_good list.now ≡ true }
+    ensures { result ≡ standing_in list.now symbol }
 {
     let i = place_of(list, symbol);
     if i < list.len() / PLACE_SIZE {

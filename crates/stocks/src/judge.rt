@@ -2,9 +2,9 @@
 // symbol is read once.
 ghost use Rattle.std.specs.Prelude.{◌≡◌, ◌+◌, ◌*◌, ◌<◌, ◌≤◌, length};
 ghost use Rattle.octets.specs.Choice.{all_below, among};
-ghost use Rattle.wire.specs.Letters.{stockStates};
-ghost use Rattle.stocks.specs.Limits.{placeSize};
-ghost use Rattle.stocks.specs.Stocks.{stateAt, placeGood, listGood};
+ghost use Rattle.wire.specs.Letters.{stock_states};
+ghost use Rattle.stocks.specs.Limits.{place_size};
+ghost use Rattle.stocks.specs.Stocks.{state_at, place_good, list_good};
 
 use crate::places::{PLACE_SIZE, SYMBOL_SIZE, rank_at};
 use wire::letters::is_stock_state;
@@ -12,16 +12,16 @@ use wire::letters::is_stock_state;
 pub const MOST_PLACES: usize = 2_000;
 
 fn state_good(list: &[u8], i: usize) -> bool
-    requires { placeSize * i + placeSize ≤ length list.now }
-    ensures { result ≡ among stockStates (stateAt list.now i) }
+    requires { place_size * i + place_size ≤ length list.now }
+    ensures { result ≡ among stock_states (state_at list.now i) }
 {
     is_stock_state(list[PLACE_SIZE * i + SYMBOL_SIZE])
 }
 
 // All n places. The first stands behind none.
 fn places_good(list: &[u8], n: usize) -> bool
-    requires { (0 < n) × (placeSize * n ≤ length list.now) }
-    ensures { result ≡ all_below n (placeGood list.now) }
+    requires { (0 < n) × (place_size * n ≤ length list.now) }
+    ensures { result ≡ all_below n (place_good list.now) }
 {
     if !state_good(list, 0) {
         return false;
@@ -50,7 +50,7 @@ fn places_good(list: &[u8], n: usize) -> bool
 }
 
 pub fn list_good(list: &[u8]) -> bool
-    ensures { result ≡ listGood list.now }
+    ensures { result ≡ list_good list.now }
 {
     let n = list.len() / PLACE_SIZE;
     if (n <= MOST_PLACES) & (list.len() == PLACE_SIZE * n) {

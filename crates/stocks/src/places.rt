@@ -1,7 +1,7 @@
 // Symbols as numbers, the first byte highest: of two symbols the earlier one is the lower number, and one comparison settles all eight bytes.
 ghost use Rattle.std.specs.Prelude.{◌≡◌, ◌+◌, ◌*◌, ◌≤◌, length};
 ghost use Rattle.octets.specs.Bytes.{number_of};
-ghost use Rattle.stocks.specs.Limits.{symbolSize, placeSize};
+ghost use Rattle.stocks.specs.Limits.{symbol_size, place_size};
 ghost use Rattle.wire.specs.Legal.{Bytes};
 ghost use Rattle.stocks.specs.Ranks.{rank_at};
 
@@ -14,7 +14,7 @@ pub(crate) const PLACE_SIZE: usize = 9;
 
 // That these are bytes is said, too: of an array that a caller was handed its proof does not know it.
 pub(crate) fn rank(symbol: &[u8]) -> u64
-    requires { length symbol.now ≡ symbolSize }
+    requires { length symbol.now ≡ symbol_size }
     ensures { (result ≡ number_of symbol.now) × Bytes symbol.now }
 {
     let n = symbol.len();
@@ -23,7 +23,7 @@ pub(crate) fn rank(symbol: &[u8]) -> u64
 
 // The eight bytes are copied out at once, since read one by one from the list they stay eight loads.
 pub(crate) fn rank_at(list: &[u8], i: usize) -> u64
-    requires { placeSize * i + symbolSize ≤ length list.now }
+    requires { place_size * i + symbol_size ≤ length list.now }
     ensures { result ≡ rank_at list.now i }
 {
     let symbol = bytes8_at(list, PLACE_SIZE * i);

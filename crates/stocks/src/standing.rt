@@ -1,6 +1,6 @@
 // How a symbol stands in the list: all that the rules are told of it.
 ghost use Rattle.std.specs.Prelude.{◌≡◌};
-ghost use Rattle.stocks.specs.Standing.{isListed, isHalted};
+ghost use Rattle.stocks.specs.Standing.{is_listed, is_halted};
 
 #[derive(Drop)]
 pub enum Standing {
@@ -10,7 +10,7 @@ pub enum Standing {
 }
 
 pub fn is_listed(standing: Standing) -> bool
-    ensures { result ≡ isListed standing }
+    ensures { result ≡ is_listed standing }
 {
     match standing {
         Standing::Trading => true,
@@ -20,7 +20,7 @@ pub fn is_listed(standing: Standing) -> bool
 }
 
 pub fn is_halted(standing: Standing) -> bool
-    ensures { result ≡ isHalted standing }
+    ensures { result ≡ is_halted standing }
 {
     match standing {
         Standing::Trading => false,

@@ -1,13 +1,13 @@
 -- Tokens compared from the last byte backwards: it is the same test as from the first byte on, and several bytes compared at once, as numbers, are
 -- the same test as one by one. Assumes nothing.
 use Rattle.octets.proofs.Proving.{Bool, List, ◌&&◌, ◌*◌, ◌+◌, ◌<◌, ◌∙◌, ◌≡◌, ◌≤◌, add-one, add-suc, add-zero, and_assoc, and_comm, and-false, and-true, ap, ap₂, arith, drop, eq-eqb, eqb, eqb-false, eqb-true, false, get_or, le_refl, length, ne_eqb, not, refl, suc, sym, take-take, true, zero, ℕ}
-use Rattle.octets.specs.Choice.{all_below, firstOf◌, ◌⇒◌⨾◌}
-use Rattle.octets.specs.Bytes.{part, same, number_of, numberFrom, whole_at}
+use Rattle.octets.specs.Choice.{all_below, first_of◌, ◌⇒◌⨾◌}
+use Rattle.octets.specs.Bytes.{part, same, number_of, number_from, whole_at}
 use Rattle.octets.proofs.Laws.{number-next}
 use Rattle.octets.proofs.Below.{same-below}
 use Rattle.wire.specs.Legal.{Bytes}
-use Rattle.wire.specs.Limits.{tokenSize}
-use Rattle.table.specs.Backwards.{sameBackwards}
+use Rattle.wire.specs.Limits.{token_size}
+use Rattle.table.specs.Backwards.{same_backwards}
 
 -- the numbers below k + n: the last n, then the k before them
 all-behind : (p : ℕ → Bool) (k n : ℕ) → all_below (k + n) p ≡ (all_below n (λ j. p (k + j)) && all_below k p)
@@ -32,40 +32,40 @@ abbrev pub same_words : List ℕ → List ℕ → Bool
 same_words xs ys = eqb (whole_at xs 6 8) (whole_at ys 6 8) && (eqb (whole_at xs 2 4) (whole_at ys 2 4) && eqb (whole_at xs 0 2) (whole_at ys 0 2))
 
 module _ (xs ys : List ℕ) where
-  abbrev byteSame : ℕ → Bool
-  byteSame k = eqb (get_or xs k 0) (get_or ys k 0)
+  abbrev byte_same : ℕ → Bool
+  byte_same k = eqb (get_or xs k 0) (get_or ys k 0)
 
-  in-any-order : (n : ℕ) → sameBackwards n xs ys ≡ all_below n byteSame
-  unfolding sameBackwards all_below
+  in-any-order : (n : ℕ) → same_backwards n xs ys ≡ all_below n byte_same
+  unfolding same_backwards all_below
   in-any-order zero = refl
-  in-any-order (suc n) = asked (byteSame n) (sameBackwards n xs ys) ∙ ap (λ (b : Bool). b && byteSame n) (in-any-order n)
+  in-any-order (suc n) = asked (byte_same n) (same_backwards n xs ys) ∙ ap (λ (b : Bool). b && byte_same n) (in-any-order n)
     where
       asked : (test rest : Bool) → (first_of not test ⇒ false ⨾ rest) ≡ (rest && test)
       asked true rest = sym (and-true rest)
       asked false rest = sym (and-false rest)
 
-  pub either_end : (n : ℕ) → length xs ≡ n → length ys ≡ n → sameBackwards n xs ys ≡ same xs ys
+  pub either_end : (n : ℕ) → length xs ≡ n → length ys ≡ n → same_backwards n xs ys ≡ same xs ys
   either_end n a b =
-      in-any-order n ∙ sym (same-below xs ys (a ∙ sym b) ∙ ap (λ (m : ℕ). all_below m byteSame) a)
+      in-any-order n ∙ sym (same-below xs ys (a ∙ sym b) ∙ ap (λ (m : ℕ). all_below m byte_same) a)
 
   module _ (a : Bytes xs) (b : Bytes ys) where
-    as_number : (k n : ℕ) → k + n ≤ length xs → k + n ≤ length ys → eqb (whole_at xs k n) (whole_at ys k n) ≡ all_below n (λ j. byteSame (k + j))
-    unfolding all_below number_of numberFrom
+    as_number : (k n : ℕ) → k + n ≤ length xs → k + n ≤ length ys → eqb (whole_at xs k n) (whole_at ys k n) ≡ all_below n (λ j. byte_same (k + j))
+    unfolding all_below number_of number_from
     as_number k zero f g = refl
     as_number k (suc n) f g =
         ap₂ eqb (next xs (omega arith)) (next ys (omega arith))
         ∙ last_byte _ _ _ _ (a (k + n)) (b (k + n))
-        ∙ ap (λ (t : Bool). t && byteSame (k + n)) (as_number k n (omega arith) (omega arith))
+        ∙ ap (λ (t : Bool). t && byte_same (k + n)) (as_number k n (omega arith) (omega arith))
       where
         next : (s : List ℕ) → k + n < length s → whole_at s k (suc n) ≡ whole_at s k n * 256 + get_or s (k + n) 0
         next s h = ap (whole_at s k) (sym (add-one n)) ∙ number-next s k n h
 
     -- the last n bytes at once, and where these are the same the k before them
-    word : (k n : ℕ) → k + n ≤ length xs → k + n ≤ length ys → sameBackwards (k + n) xs ys ≡ (eqb (whole_at xs k n) (whole_at ys k n) && sameBackwards k xs ys)
-    word k n f g = in-any-order (k + n) ∙ all-behind byteSame k n ∙ sym (ap₂ ◌&&◌ (as_number k n f g) (in-any-order k))
+    word : (k n : ℕ) → k + n ≤ length xs → k + n ≤ length ys → same_backwards (k + n) xs ys ≡ (eqb (whole_at xs k n) (whole_at ys k n) && same_backwards k xs ys)
+    word k n f g = in-any-order (k + n) ∙ all-behind byte_same k n ∙ sym (ap₂ ◌&&◌ (as_number k n f g) (in-any-order k))
 
-    pub in_words : length xs ≡ tokenSize → length ys ≡ tokenSize → sameBackwards tokenSize xs ys ≡ same_words xs ys
-    unfolding sameBackwards
+    pub in_words : length xs ≡ token_size → length ys ≡ token_size → same_backwards token_size xs ys ≡ same_words xs ys
+    unfolding same_backwards
     in_words e f =
         word 6 8 (omega arith) (omega arith)
         ∙ ap (λ (t : Bool). eqb (whole_at xs 6 8) (whole_at ys 6 8) && t)

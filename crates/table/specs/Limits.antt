@@ -1,8 +1,8 @@
 -- How many records a table has (Table and outbox).
 use Rattle.std.specs.Prelude.{ℕ}
 
-abbrev pub fewestRecords : ℕ
-fewestRecords = 1
+abbrev pub fewest_records : ℕ
+fewest_records = 1
 
-abbrev pub mostRecords : ℕ
-mostRecords = 800
+abbrev pub most_records : ℕ
+most_records = 800

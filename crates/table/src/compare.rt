@@ -1,8 +1,8 @@
 // Two tokens compared, from the last byte backwards: eight bytes at once, then four, then two, and none in front of those that differ.
 ghost use Rattle.std.specs.Prelude.{◌≡◌, ◌+◌, ◌≤◌, length};
 ghost use Rattle.octets.specs.Bytes.{whole_at};
-ghost use Rattle.wire.specs.Limits.{tokenSize};
-ghost use Rattle.table.specs.Backwards.{sameBackwards};
+ghost use Rattle.wire.specs.Limits.{token_size};
+ghost use Rattle.table.specs.Backwards.{same_backwards};
 
 use octets::{be32, be64, bytes4_at, bytes8_at, number_at};
 
@@ -24,8 +24,8 @@ fn four_at(s: &[u8], at: usize) -> u32
 }
 
 pub(crate) fn same_backwards(a: &[u8], b: &[u8]) -> bool
-    requires { (length a.now ≡ tokenSize) × (length b.now ≡ tokenSize) }
-    ensures { result ≡ sameBackwards tokenSize a.now b.now }
+    requires { (length a.now ≡ token_size) × (length b.now ≡ token_size) }
+    ensures { result ≡ same_backwards token_size a.now b.now }
 {
     if eight_at(a, 6) == eight_at(b, 6) {
         if four_at(a, 2) == four_at(b, 2) {

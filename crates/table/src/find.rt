@@ -1,7 +1,7 @@
 // Which record a token means: the first used one that has it.
 ghost use Rattle.std.specs.Prelude.{◌≡◌, ◌≤◌};
-ghost use Rattle.octets.specs.Choice.{firstBelow};
-ghost use Rattle.table.specs.Table.{recordsIn, HasRecord, hasToken, place_of, orderFrom};
+ghost use Rattle.octets.specs.Choice.{first_below};
+ghost use Rattle.table.specs.Table.{records_in, HasRecord, has_token, place_of, order_from};
 
 use crate::compare::same_backwards;
 use crate::places::{order_at, record_bytes, used};
@@ -9,7 +9,7 @@ use orders::order::{Order, no_order};
 
 fn has_token(table: &[u8], token: [u8; 14], i: usize) -> bool
     requires { HasRecord table.now i }
-    ensures { result ≡ hasToken table.now token i }
+    ensures { result ≡ has_token table.now token i }
 {
     let r = record_bytes(table, i);
     same_backwards(&r[1..15], &token)
@@ -17,8 +17,8 @@ fn has_token(table: &[u8], token: [u8; 14], i: usize) -> bool
 
 // Two records are looked at in a turn: with one, the jump back takes as long as the look.
 fn first(table: &[u8], token: [u8; 14], n: usize) -> usize
-    requires { n ≤ recordsIn table.now }
-    ensures { result ≡ firstBelow n (hasToken table.now token) }
+    requires { n ≤ records_in table.now }
+    ensures { result ≡ first_below n (has_token table.now token) }
 {
     let mut i: usize = 0;
     while i + 1 < n {
@@ -47,7 +47,7 @@ pub fn find(table: &[u8], token: [u8; 14]) -> usize
 
 // The order at a place that `find` gave.
 pub fn order_from(table: &[u8], i: usize) -> Order
-    ensures { result ≡ orderFrom table.now i }
+    ensures { result ≡ order_from table.now i }
 {
     if i < used(table) {
         return order_at(table, i);

@@ -1,9 +1,9 @@
 // The fresh call: a table with nothing in it, from threshold and firms.
 ghost use Rattle.std.specs.Prelude.{◌≡◌, length};
 ghost use Rattle.octets.specs.Bytes.{zeros};
-ghost use Rattle.header.specs.Settings.{freshHeader};
-ghost use Rattle.table.specs.Table.{storeHeader};
-ghost use Rattle.table.specs.Fresh.{freshAnswer, freshTable};
+ghost use Rattle.header.specs.Settings.{fresh_header};
+ghost use Rattle.table.specs.Table.{store_header};
+ghost use Rattle.table.specs.Fresh.{fresh_answer, fresh_table};
 
 use crate::places::store_header;
 use crate::sound::size_good;
@@ -22,7 +22,7 @@ fn clear(table: &mut [u8])
 
 // 10 for a bad length, then 3 for bad settings.
 fn fresh_answer(table: &[u8], settings: Settings) -> Answer
-    ensures { result ≡ freshAnswer table.now settings }
+    ensures { result ≡ fresh_answer table.now settings }
 {
     first_of(
         !size_good(table),
@@ -33,14 +33,14 @@ fn fresh_answer(table: &[u8], settings: Settings) -> Answer
 
 // Zeros, and the header over them.
 fn begin(table: &mut [u8], settings: Settings)
-    ensures { table.new ≡ storeHeader (zeros (length table.old)) (freshHeader settings) }
+    ensures { table.new ≡ store_header (zeros (length table.old)) (fresh_header settings) }
 {
     clear(table);
     store_header(table, fresh_header(settings));
 }
 
 pub fn fresh(table: &mut [u8], settings: Settings) -> Answer
-    ensures { (result ≡ freshAnswer table.old settings) × (table.new ≡ freshTable table.old settings) }
+    ensures { (result ≡ fresh_answer table.old settings) × (table.new ≡ fresh_table table.old settings) }
 {
     let answer = fresh_answer(table, settings);
     if is_done(answer) {

@@ -2,9 +2,9 @@
 // there: what is no part of the table reads as nothing, and is not stored.
 ghost use Rattle.std.specs.Prelude.{◌≡◌, ◌+◌, ◌*◌, ◌≤◌, length};
 ghost use Rattle.octets.specs.Bytes.{zeros};
-ghost use Rattle.header.specs.Limits.{headerSize, sumPlace};
-ghost use Rattle.orders.specs.Limits.{recordSize};
-ghost use Rattle.table.specs.Table.{recordsIn, recordPlace, HasRecord, headBytes, recordBytes, header, usedIn, order_at, bitBytes, storeHeader};
+ghost use Rattle.header.specs.Limits.{header_size, sum_place};
+ghost use Rattle.orders.specs.Limits.{record_size};
+ghost use Rattle.table.specs.Table.{records_in, record_place, HasRecord, head_bytes, record_bytes, header, used_in, order_at, bit_bytes, store_header};
 
 use header::{HEADER_SIZE, Header, SUM_PLACE, header_of, put_header};
 use octets::least;
@@ -16,7 +16,7 @@ const EIGHT_RECORDS: usize = 641;
 
 // How many records the table has room for, each with its bit. A length that were multiplied before it is divided could overflow.
 pub fn records_in(table: &[u8]) -> usize
-    ensures { result ≡ recordsIn table.now }
+    ensures { result ≡ records_in table.now }
 {
     if table.len() < HEADER_SIZE {
         return 0;
@@ -27,8 +27,8 @@ pub fn records_in(table: &[u8]) -> usize
 
 // The bytes of the header's value; the blank ones, which are zeros, where the table is too short to have any.
 pub(crate) fn head_bytes<'a>(table: &'a [u8], blank: &'a [u8; SUM_PLACE]) -> &'a [u8]
-    requires { blank.now ≡ zeros sumPlace }
-    ensures { (result.now ≡ headBytes table.now) × (length result.now ≡ sumPlace) }
+    requires { blank.now ≡ zeros sum_place }
+    ensures { (result.now ≡ head_bytes table.now) × (length result.now ≡ sum_place) }
 {
     if table.len() < HEADER_SIZE {
         return blank;
@@ -39,15 +39,15 @@ pub(crate) fn head_bytes<'a>(table: &'a [u8], blank: &'a [u8; SUM_PLACE]) -> &'a
 // Where record i begins; all of it lies in the table.
 pub(crate) fn record_place(table: &[u8], i: usize) -> usize
     requires { HasRecord table.now i }
-    ensures { (result ≡ recordPlace i) × (result + recordSize ≤ length table.now) }
+    ensures { (result ≡ record_place i) × (result + record_size ≤ length table.now) }
 {
     HEADER_SIZE + RECORD_SIZE * i
 }
 
 // The 80 bytes of a record that lies in the bytes, whether there are bits behind the records or not.
 pub fn record_at(table: &[u8], i: usize) -> &[u8]
-    requires { headerSize + recordSize * i + recordSize ≤ length table.now }
-    ensures { (result.now ≡ recordBytes table.now i) × (length result.now ≡ recordSize) }
+    requires { header_size + record_size * i + record_size ≤ length table.now }
+    ensures { (result.now ≡ record_bytes table.now i) × (length result.now ≡ record_size) }
 {
     let at = HEADER_SIZE + RECORD_SIZE * i;
     &table[at..at + RECORD_SIZE]
@@ -55,14 +55,14 @@ pub fn record_at(table: &[u8], i: usize) -> &[u8]
 
 pub(crate) fn record_bytes(table: &[u8], i: usize) -> &[u8]
     requires { HasRecord table.now i }
-    ensures { (result.now ≡ recordBytes table.now i) × (length result.now ≡ recordSize) }
+    ensures { (result.now ≡ record_bytes table.now i) × (length result.now ≡ record_size) }
 {
     record_at(table, i)
 }
 
 // The bytes of bits, behind the records; none where the table is too short to have any.
 pub(crate) fn bit_bytes(table: &[u8]) -> &[u8]
-    ensures { result.now ≡ bitBytes table.now }
+    ensures { result.now ≡ bit_bytes table.now }
 {
     let place = least(HEADER_SIZE + RECORD_SIZE * records_in(table), table.len());
     &table[place..table.len()]
@@ -77,7 +77,7 @@ pub fn header(table: &[u8]) -> Header
 
 // How many records are used, of those that there are; asked by itself since judging and finding need no more of the header.
 pub fn used(table: &[u8]) -> usize
-    ensures { result ≡ usedIn table.now }
+    ensures { result ≡ used_in table.now }
 {
     if table.len() < HEADER_SIZE {
         return 0;
@@ -97,7 +97,7 @@ pub(crate) fn order_at(table: &[u8], i: usize) -> Order
 
 // The bytes behind the header's value stay.
 pub fn store_header(table: &mut [u8], h: Header)
-    ensures { table.new ≡ storeHeader table.old h }
+    ensures { table.new ≡ store_header table.old h }
 {
     if HEADER_SIZE <= table.len() {
         put_header(&mut table[0..SUM_PLACE], h);

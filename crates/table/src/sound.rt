@@ -3,10 +3,10 @@ ghost use Rattle.std.specs.Prelude.{◌≡◌, true, ◌&&◌, ◌+◌, ◌-◌,
 ghost use Rattle.std.specs.Bool.{beq};
 ghost use Rattle.octets.specs.Choice.{all_below};
 ghost use Rattle.bitrow.specs.Row.{packed};
-ghost use Rattle.orders.specs.Sound.{recordSound};
-ghost use Rattle.orders.specs.Order.{isLive};
-ghost use Rattle.table.specs.Limits.{mostRecords};
-ghost use Rattle.table.specs.Table.{recordsIn, usedIn, tableSize, sizeGood, recordBytes, order_at, isMarked, bitsGood, sumGood, sound};
+ghost use Rattle.orders.specs.Sound.{record_sound};
+ghost use Rattle.orders.specs.Order.{is_live};
+ghost use Rattle.table.specs.Limits.{most_records};
+ghost use Rattle.table.specs.Table.{records_in, used_in, table_size, size_good, record_bytes, order_at, is_marked, bits_good, sum_good, sound};
 
 use crate::places::{bit_bytes, head_bytes, record_bytes, records_in, used};
 use crate::store::open_sum;
@@ -24,15 +24,15 @@ pub const MOST_RECORDS: usize = 800;
 
 // How long a table of n records is: a header, the records, and the bytes for their bits.
 pub fn table_size(n: usize) -> usize
-    requires { n ≤ mostRecords }
-    ensures { result ≡ tableSize n }
+    requires { n ≤ most_records }
+    ensures { result ≡ table_size n }
 {
     HEADER_SIZE + RECORD_SIZE * n + (n + 7) / 8
 }
 
 // 1 to 800 records, and nothing behind their bits.
 pub fn size_good(table: &[u8]) -> bool
-    ensures { result ≡ sizeGood table.now }
+    ensures { result ≡ size_good table.now }
 {
     let n = records_in(table);
     if (FEWEST_RECORDS <= n) & (n <= MOST_RECORDS) {
@@ -43,8 +43,8 @@ pub fn size_good(table: &[u8]) -> bool
 
 // The byte of bits that eight records should have. The loop is of a fixed length, and the compiler unrolls it.
 fn eight_live(table: &[u8], at: usize) -> u8
-    requires { 8 * at + 8 ≤ recordsIn table.now }
-    ensures { result ≡ packed 8 (λ j. isLive (order_at table.now (8 * at + j))) }
+    requires { 8 * at + 8 ≤ records_in table.now }
+    ensures { result ≡ packed 8 (λ j. is_live (order_at table.now (8 * at + j))) }
 {
     let mut byte: u8 = 0;
     let mut j: usize = 0;
@@ -57,8 +57,8 @@ fn eight_live(table: &[u8], at: usize) -> u8
 
 // The first m bytes of bits are what they should be: eight records are asked at once.
 fn bytes_agree(table: &[u8], m: usize) -> bool
-    requires { 8 * m ≤ recordsIn table.now }
-    ensures { result ≡ all_below (8 * m) (λ i. beq (isMarked table.now i) (isLive (order_at table.now i))) }
+    requires { 8 * m ≤ records_in table.now }
+    ensures { result ≡ all_below (8 * m) (λ i. beq (is_marked table.now i) (is_live (order_at table.now i))) }
 {
     let bits = bit_bytes(table);
     let mut ok = true;
@@ -72,8 +72,8 @@ fn bytes_agree(table: &[u8], m: usize) -> bool
 
 // So are the bits of the records from `from` up to n.
 fn rest_agrees(table: &[u8], from: usize, n: usize) -> bool
-    requires { (from ≤ n) × (n ≤ recordsIn table.now) }
-    ensures { result ≡ all_below (n - from) (λ j. beq (isMarked table.now (from + j)) (isLive (order_at table.now (from + j)))) }
+    requires { (from ≤ n) × (n ≤ records_in table.now) }
+    ensures { result ≡ all_below (n - from) (λ j. beq (is_marked table.now (from + j)) (is_live (order_at table.now (from + j)))) }
 {
     let bits = bit_bytes(table);
     let mut ok = true;
@@ -86,8 +86,8 @@ fn rest_agrees(table: &[u8], from: usize, n: usize) -> bool
 }
 
 fn bits_agree(table: &[u8], n: usize) -> bool
-    requires { n ≤ recordsIn table.now }
-    ensures { result ≡ all_below n (λ i. beq (isMarked table.now i) (isLive (order_at table.now i))) }
+    requires { n ≤ records_in table.now }
+    ensures { result ≡ all_below n (λ i. beq (is_marked table.now i) (is_live (order_at table.now i))) }
 {
     let m = n / 8;
     bytes_agree(table, m) & rest_agrees(table, 8 * m, n)
@@ -95,8 +95,8 @@ fn bits_agree(table: &[u8], n: usize) -> bool
 
 // The records, their bits and the sum, of a table that is as long as it should be.
 fn records_sound(table: &[u8]) -> bool
-    requires { sizeGood table.now ≡ true }
-    ensures { result ≡ (all_below (usedIn table.now) (λ i. recordSound (recordBytes table.now i)) && (bitsGood table.now && sumGood table.now)) }
+    requires { size_good table.now ≡ true }
+    ensures { result ≡ (all_below (used_in table.now) (λ i. record_sound (record_bytes table.now i)) && (bits_good table.now && sum_good table.now)) }
 {
     let n = used(table);
     let found = walk(table, n);

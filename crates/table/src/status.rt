@@ -1,6 +1,6 @@
 // How many orders are live and how much is open of them, for a status screen: both stand in the table, and no record is looked at.
 ghost use Rattle.std.specs.Prelude.{◌≡◌};
-ghost use Rattle.table.specs.Status.{formGood, status};
+ghost use Rattle.table.specs.Status.{form_good, status};
 
 use crate::places::bit_bytes;
 use crate::sound::size_good;
@@ -20,7 +20,7 @@ pub struct Tally {
 }
 
 fn form_good(table: &[u8]) -> bool
-    ensures { result ≡ formGood table.now }
+    ensures { result ≡ form_good table.now }
 {
     if size_good(table) {
         return byte_at(table, 2) == TABLE_FORM;

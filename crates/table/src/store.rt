@@ -2,9 +2,9 @@
 // else.
 ghost use Rattle.std.specs.Prelude.{◌≡◌, ◌-◌, ◌≤◌, length};
 ghost use Rattle.octets.specs.Bytes.{put};
-ghost use Rattle.header.specs.Limits.{headerSize};
-ghost use Rattle.orders.specs.Order.{orderBytes};
-ghost use Rattle.table.specs.Table.{recordPlace, HasRecord, openSum, withMark, openBefore, counted, storeRecord, storeOrder};
+ghost use Rattle.header.specs.Limits.{header_size};
+ghost use Rattle.orders.specs.Order.{order_bytes};
+ghost use Rattle.table.specs.Table.{record_place, HasRecord, open_sum, with_mark, open_before, counted, store_record, store_order};
 
 use crate::places::{bit_bytes, record_bytes, record_place, records_in};
 use bitrow::{bit_at, set_bit};
@@ -17,8 +17,8 @@ use wire::shares::Removed;
 
 // How much is open of all orders, as bytes 60 to 63 say.
 pub(crate) fn open_sum(table: &[u8]) -> u32
-    requires { headerSize ≤ length table.now }
-    ensures { result ≡ openSum table.now }
+    requires { header_size ≤ length table.now }
+    ensures { result ≡ open_sum table.now }
 {
     be32(table, SUM_PLACE)
 }
@@ -26,7 +26,7 @@ pub(crate) fn open_sum(table: &[u8]) -> u32
 // What the record adds to the sum as it is. A record behind the used ones may hold anything; its bit is not set.
 fn open_before(table: &[u8], i: usize) -> Removed
     requires { HasRecord table.now i }
-    ensures { result.0 ≡ openBefore table.now i }
+    ensures { result.0 ≡ open_before table.now i }
 {
     if bit_at(bit_bytes(table), i) {
         return open_in(record_bytes(table, i));
@@ -36,7 +36,7 @@ fn open_before(table: &[u8], i: usize) -> Removed
 
 fn place_order(table: &mut [u8], i: usize, o: Order)
     requires { HasRecord table.old i }
-    ensures { (table.new ≡ put table.old (recordPlace i) (orderBytes o)) × (HasRecord table.new i) }
+    ensures { (table.new ≡ put table.old (record_place i) (order_bytes o)) × (HasRecord table.new i) }
 {
     let place = record_place(table, i);
     put_order(&mut table[place..place + RECORD_SIZE], o);
@@ -44,7 +44,7 @@ fn place_order(table: &mut [u8], i: usize, o: Order)
 
 fn mark(table: &mut [u8], i: usize, live: bool)
     requires { HasRecord table.old i }
-    ensures { (table.new ≡ withMark table.old i live) × (headerSize ≤ length table.new) }
+    ensures { (table.new ≡ with_mark table.old i live) × (header_size ≤ length table.new) }
 {
     let place = HEADER_SIZE + RECORD_SIZE * records_in(table);
     let end = table.len();
@@ -72,7 +72,7 @@ fn count(table: &mut [u8], i: usize, before: Removed)
 
 fn store_record(table: &mut [u8], i: usize, o: Order)
     requires { HasRecord table.old i }
-    ensures { table.new ≡ storeRecord table.old i (orderBytes o) }
+    ensures { table.new ≡ store_record table.old i (order_bytes o) }
 {
     let before = open_before(table, i);
     place_order(table, i, o);
@@ -80,7 +80,7 @@ fn store_record(table: &mut [u8], i: usize, o: Order)
 }
 
 pub fn store_order(table: &mut [u8], i: usize, o: Order)
-    ensures { table.new ≡ storeOrder table.old i o }
+    ensures { table.new ≡ store_order table.old i o }
 {
     if i < records_in(table) {
         store_record(table, i, o);

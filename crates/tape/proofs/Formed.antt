@@ -2,13 +2,13 @@
 use Rattle.octets.proofs.Proving.{Bool, List, ◌∙◌, ◌∷◌, ◌≡◌, ◌≤◌, ap, arith, eqb, eqb-false, eqb-true, false, get_or, length, not, not-true, refl, sym, true, ℕ}
 use Rattle.octets.proofs.Below.{both}
 use Rattle.answers.specs.declared.Answer.TheVariants.{Malformed, Done}
-use Rattle.wire.specs.Layout.{stampAt, place, badPlace, firstBadPlace, unbroken}
-use Rattle.wire.specs.Messages.{placeAnswer}
+use Rattle.wire.specs.Layout.{stamp_at, place, bad_place, first_bad_place, unbroken}
+use Rattle.wire.specs.Messages.{place_answer}
 use Rattle.wire.proofs.Found.{not-at-0}
 use Rattle.wire.proofs.Verdicts.{told}
-use Rattle.tape.specs.Kinds.{Kind, Enters, Replaces, Cancels, Modifies, Executes, BookCancels, SelfMatches, Prioritises, TurnsLate, EndsCross, TellsDay, SetsStock, Purges, Disables, Enables, Unknown, kindBy, kind_of, layout_of, purgeEntry}
-use Rattle.tape.specs.Entries.{wellFormed, badPlaceOf, entryAnswer, purges}
-use Rattle.tape.specs.Behind.{behindOf, judgedFields, Within}
+use Rattle.tape.specs.Kinds.{Kind, Enters, Replaces, Cancels, Modifies, Executes, BookCancels, SelfMatches, Prioritises, TurnsLate, EndsCross, TellsDay, SetsStock, Purges, Disables, Enables, Unknown, kind_by, kind_of, layout_of, purge_entry}
+use Rattle.tape.specs.Entries.{well_formed, bad_place_of, entry_answer, purges}
+use Rattle.tape.specs.Behind.{behind_of, judged_fields, Within}
 
 -- ---- lengths
 
@@ -17,27 +17,27 @@ pub record Formed (s : List ℕ) (kind : Kind) : Type 0 where
   pub long : length s ≡ (layout_of kind).size
   pub known : (layout_of kind).size ≡ 0 → ⊥
 
-pub formed : (s : List ℕ) → wellFormed s ≡ true → Formed s (kind_of s)
-unfolding wellFormed
+pub formed : (s : List ℕ) → well_formed s ≡ true → Formed s (kind_of s)
+unfolding well_formed
 formed s w =
     let size = (layout_of (kind_of s)).size in
     let b = both (not (eqb size 0)) (eqb (length s) size) w in
     record { long = eqb-true (length s) size b.1; known = eqb-false size 0 (not-true (eqb size 0) b.0) }
 
 -- the same for a kind that was asked for and told
-pub long_as : (s : List ℕ) → wellFormed s ≡ true → {r kind : Kind} → r ≡ kind_of s → r ≡ kind → length s ≡ (layout_of kind).size
+pub long_as : (s : List ℕ) → well_formed s ≡ true → {r kind : Kind} → r ≡ kind_of s → r ≡ kind → length s ≡ (layout_of kind).size
 long_as s w promise told = (formed s w).long ∙ ap (λ (k : Kind). (layout_of k).size) (sym promise ∙ told)
 
 -- what begins as a w is one, and as long
 pub purges-kind : (s : List ℕ) → purges s ≡ true → kind_of s ≡ Purges
-unfolding purges kind_of kindBy
-purges-kind s w = rw (eqb-true (get_or s 0 0) purgeEntry.code w)
+unfolding purges kind_of kind_by
+purges-kind s w = rw (eqb-true (get_or s 0 0) purge_entry.code w)
 
-pub purge-long : (s : List ℕ) → wellFormed s ≡ true → {r : Bool} → r ≡ purges s → r ≡ true → length s ≡ 21
+pub purge-long : (s : List ℕ) → well_formed s ≡ true → {r : Bool} → r ≡ purges s → r ≡ true → length s ≡ 21
 purge-long s w promise told = long_as s w refl (purges-kind s (sym promise ∙ told))
 
 -- the judged fields of a kind lie in an entry of its length
-pub within : (kind : Kind) → Within (behindOf kind) (layout_of kind).size
+pub within : (kind : Kind) → Within (behind_of kind) (layout_of kind).size
 within Enters = (omega arith, omega arith)
 within Replaces = (omega arith, omega arith)
 within Cancels = (omega arith, omega arith)
@@ -74,15 +74,15 @@ stamped Disables h = omega arith
 stamped Enables h = omega arith
 stamped Unknown h = absurd (h refl)
 
-pub stamp-fits : (s : List ℕ) → wellFormed s ≡ true → 9 ≤ length s
+pub stamp-fits : (s : List ℕ) → well_formed s ≡ true → 9 ≤ length s
 stamp-fits s w = let f = formed s w in omega (arith, f.long, stamped (kind_of s) f.known)
 
 -- ---- places
 
 -- a stamp, and then the judged fields: all that a kind's layout judges
 pub judged : (kind : Kind) (s : List ℕ) → ((layout_of kind).size ≡ 0 → ⊥)
-    → firstBadPlace (layout_of kind).fields s ≡ firstBadPlace (stampAt 1 ∷ judgedFields (behindOf kind)) s
-unfolding firstBadPlace badPlace
+    → first_bad_place (layout_of kind).fields s ≡ first_bad_place (stamp_at 1 ∷ judged_fields (behind_of kind)) s
+unfolding first_bad_place bad_place
 judged Enters s h = refl
 judged Replaces s h = refl
 judged Cancels s h = refl
@@ -122,10 +122,10 @@ well-laid Unknown h = absurd (h refl)
 
 -- ---- 2, 3 or neither
 
-pub answer-judged : (s : List ℕ) → wellFormed s ≡ true → placeAnswer (place (badPlaceOf s)) Done ≡ entryAnswer s
-unfolding entryAnswer badPlaceOf
-answer-judged s w = told (badPlaceOf s) Done (not-at-0 (layout_of (kind_of s)).fields (layout_of (kind_of s)).size (well-laid (kind_of s) (formed s w).known) s) ∙ sym (rw w)
+pub answer-judged : (s : List ℕ) → well_formed s ≡ true → place_answer (place (bad_place_of s)) Done ≡ entry_answer s
+unfolding entry_answer bad_place_of
+answer-judged s w = told (bad_place_of s) Done (not-at-0 (layout_of (kind_of s)).fields (layout_of (kind_of s)).size (well-laid (kind_of s) (formed s w).known) s) ∙ sym (rw w)
 
-pub answer-malformed : (s : List ℕ) → wellFormed s ≡ false → Malformed ≡ entryAnswer s
-unfolding entryAnswer
+pub answer-malformed : (s : List ℕ) → well_formed s ≡ false → Malformed ≡ entry_answer s
+unfolding entry_answer
 answer-malformed s h = rw h

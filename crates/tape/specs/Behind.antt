@@ -1,42 +1,42 @@
 -- What is judged behind an entry's stamp, by kind. This is about inner functions: that each kind's layout judges just this is proved.
 use Rattle.std.specs.Prelude.{ℕ, ◌+◌, ◌<◌, ◌≤◌, List, [], ◌∷◌}
-use Rattle.wire.specs.Layout.{Field, tokenAt, liquidityAt, bookReasonAt, systemEventAt, stockStateAt, limitPriceAt}
-use Rattle.wire.specs.Messages.{messageLayout, fieldsFrom}
+use Rattle.wire.specs.Layout.{Field, token_at, liquidity_at, book_reason_at, system_event_at, stock_state_at, limit_price_at}
+use Rattle.wire.specs.Messages.{message_layout, fields_from}
 use Rattle.tape.specs.Kinds.{Kind, Enters, Replaces, Cancels, Modifies, Executes, BookCancels, SelfMatches, Prioritises, TurnsLate, EndsCross, TellsDay, SetsStock, Purges, Disables, Enables, Unknown}
 pub use Rattle.tape.specs.declared.judging.Behind.{Behind}
 pub use Rattle.tape.specs.declared.judging.Behind.TheVariants.{Message, Token, Flag, Reason, Price, Event, State, Nothing}
 
-abbrev pub behindOf : Kind → Behind
-behindOf Enters = Message 0
-behindOf Replaces = Message 1
-behindOf Cancels = Message 2
-behindOf Modifies = Message 3
-behindOf Executes = Flag 31
-behindOf BookCancels = Reason 27
-behindOf SelfMatches = Flag 35
-behindOf Prioritises = Price
-behindOf TurnsLate = Token
-behindOf EndsCross = Token
-behindOf TellsDay = Event
-behindOf SetsStock = State
-behindOf Purges = Nothing
-behindOf Disables = Nothing
-behindOf Enables = Nothing
-behindOf Unknown = Nothing
+abbrev pub behind_of : Kind → Behind
+behind_of Enters = Message 0
+behind_of Replaces = Message 1
+behind_of Cancels = Message 2
+behind_of Modifies = Message 3
+behind_of Executes = Flag 31
+behind_of BookCancels = Reason 27
+behind_of SelfMatches = Flag 35
+behind_of Prioritises = Price
+behind_of TurnsLate = Token
+behind_of EndsCross = Token
+behind_of TellsDay = Event
+behind_of SetsStock = State
+behind_of Purges = Nothing
+behind_of Disables = Nothing
+behind_of Enables = Nothing
+behind_of Unknown = Nothing
 
-abbrev pub judgedFields : Behind → List Field
-judgedFields (Message k) = fieldsFrom 8 k
-judgedFields Token = tokenAt 9 ∷ []
-judgedFields (Flag at) = tokenAt 9 ∷ liquidityAt at ∷ []
-judgedFields (Reason at) = tokenAt 9 ∷ bookReasonAt at ∷ []
-judgedFields Price = tokenAt 9 ∷ limitPriceAt 23 ∷ []
-judgedFields Event = systemEventAt 9 ∷ []
-judgedFields State = stockStateAt 17 ∷ []
-judgedFields Nothing = []
+abbrev pub judged_fields : Behind → List Field
+judged_fields (Message k) = fields_from 8 k
+judged_fields Token = token_at 9 ∷ []
+judged_fields (Flag at) = token_at 9 ∷ liquidity_at at ∷ []
+judged_fields (Reason at) = token_at 9 ∷ book_reason_at at ∷ []
+judged_fields Price = token_at 9 ∷ limit_price_at 23 ∷ []
+judged_fields Event = system_event_at 9 ∷ []
+judged_fields State = stock_state_at 17 ∷ []
+judged_fields Nothing = []
 
 -- they lie in an entry of n bytes
 abbrev pub Within : Behind → ℕ → Type 0
-Within (Message k) n = (k < 4) × ((messageLayout k).size + 8 ≤ n)
+Within (Message k) n = (k < 4) × ((message_layout k).size + 8 ≤ n)
 Within Token n = 23 ≤ n
 Within (Flag at) n = (23 ≤ n) × (at < n)
 Within (Reason at) n = (23 ≤ n) × (at < n)

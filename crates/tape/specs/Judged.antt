@@ -2,11 +2,11 @@
 -- is bad, with the smallest offset of one, counted from the kind byte as 0; and no other answer has a place.
 use Rattle.std.specs.Prelude.{ℕ, ◌≡◌, true, List}
 use Rattle.answers.specs.declared.Answer.TheVariants.{Malformed, BadField}
-use Rattle.wire.specs.Legal.{FirstBad, ◌exactlyWhen◌, PlaceWith3}
+use Rattle.wire.specs.Legal.{FirstBad, ◌exactly_when◌, PlaceWith3}
 use Rattle.tape.specs.Kinds.{kind_of, layout_of}
-use Rattle.tape.specs.Entries.{wellFormed, entryAnswer}
+use Rattle.tape.specs.Entries.{well_formed, entry_answer}
 
 pub record Judged (s : List ℕ) : Type 0 where
-  pub malformed : (entryAnswer s ≡ Malformed) exactlyWhen (wellFormed s ≡ true → ⊥)
-  pub bad-field : (at : ℕ) → (entryAnswer s ≡ BadField at) exactlyWhen ((wellFormed s ≡ true) × FirstBad (layout_of (kind_of s)).fields s at)
-  pub place-0 : PlaceWith3 (entryAnswer s)
+  pub malformed : (entry_answer s ≡ Malformed) exactly_when (well_formed s ≡ true → ⊥)
+  pub bad-field : (at : ℕ) → (entry_answer s ≡ BadField at) exactly_when ((well_formed s ≡ true) × FirstBad (layout_of (kind_of s)).fields s at)
+  pub place-0 : PlaceWith3 (entry_answer s)

@@ -1,9 +1,9 @@
 // Judging an entry: is its kind known and its length the kind's, and if so, where does its first bad byte stand, if there is one.
 ghost use Rattle.std.specs.Prelude.{◌≡◌, true, length};
-ghost use Rattle.wire.specs.Layout.{place, firstBadPlace};
+ghost use Rattle.wire.specs.Layout.{place, first_bad_place};
 ghost use Rattle.tape.specs.Kinds.{kind_of};
-ghost use Rattle.tape.specs.Entries.{wellFormed, badPlaceOf, entryAnswer};
-ghost use Rattle.tape.specs.Behind.{behindOf, judgedFields, Within};
+ghost use Rattle.tape.specs.Entries.{well_formed, bad_place_of, entry_answer};
+ghost use Rattle.tape.specs.Behind.{behind_of, judged_fields, Within};
 
 use crate::kinds::{Kind, kind_of, length_of};
 use answers::Answer;
@@ -16,7 +16,7 @@ use wire::places::{
 
 // 2 for a kind or a length, 3 where there is a first bad place, with that place.
 pub fn judge(entry: &[u8]) -> Answer
-    ensures { result ≡ entryAnswer entry.now }
+    ensures { result ≡ entry_answer entry.now }
 {
     let kind = kind_of(entry);
     if well_formed(entry, kind) {
@@ -28,7 +28,7 @@ pub fn judge(entry: &[u8]) -> Answer
 // What is no kind has length 0, and no entry has.
 fn well_formed(entry: &[u8], kind: Kind) -> bool
     requires { kind ≡ kind_of entry.now }
-    ensures { result ≡ wellFormed entry.now }
+    ensures { result ≡ well_formed entry.now }
 {
     let length = length_of(kind);
     (length != 0) & (entry.len() == length)
@@ -36,8 +36,8 @@ fn well_formed(entry: &[u8], kind: Kind) -> bool
 
 // Every body opens with a stamp.
 fn first_bad(entry: &[u8], kind: Kind) -> usize
-    requires { (kind ≡ kind_of entry.now) × (wellFormed entry.now ≡ true) }
-    ensures { result ≡ place (badPlaceOf entry.now) }
+    requires { (kind ≡ kind_of entry.now) × (well_formed entry.now ≡ true) }
+    ensures { result ≡ place (bad_place_of entry.now) }
 {
     earlier(bad_stamp(entry, 1), bad_behind(entry, behind_of(kind)))
 }
@@ -61,7 +61,7 @@ pub enum Behind {
 }
 
 fn behind_of(kind: Kind) -> Behind
-    ensures { result ≡ behindOf kind }
+    ensures { result ≡ behind_of kind }
 {
     match kind {
         Kind::Enters => Behind::Message(ENTER_ORDER),
@@ -85,7 +85,7 @@ fn behind_of(kind: Kind) -> Behind
 
 fn bad_behind(entry: &[u8], behind: Behind) -> usize
     requires { Within behind (length entry.now) }
-    ensures { result ≡ place (firstBadPlace (judgedFields behind) entry.now) }
+    ensures { result ≡ place (first_bad_place (judged_fields behind) entry.now) }
 {
     match behind {
         Behind::Message(k) => bad_inbound(entry, 8, k),

@@ -1,6 +1,6 @@
 // The kinds of entry and the length that each fixes.
 ghost use Rattle.std.specs.Prelude.{◌≡◌};
-ghost use Rattle.tape.specs.Kinds.{kindBy, kind_of, kindPlace, layout_of, entryLength};
+ghost use Rattle.tape.specs.Kinds.{kind_by, kind_of, kind_place, layout_of, entry_length};
 
 // By what an entry does, in the order O U X M e c q p l f s h w d n; the last is every other byte.
 #[derive(Drop)]
@@ -29,7 +29,7 @@ pub const LENGTHS: [u8; 16] = [
 ];
 
 pub fn kind_by(letter: u8) -> Kind
-    ensures { result ≡ kindBy letter }
+    ensures { result ≡ kind_by letter }
 {
     match letter {
         b'O' => Kind::Enters,
@@ -62,7 +62,7 @@ pub fn kind_of(entry: &[u8]) -> Kind
 }
 
 fn place_of(kind: Kind) -> usize
-    ensures { result ≡ kindPlace kind }
+    ensures { result ≡ kind_place kind }
 {
     match kind {
         Kind::Enters => 0,
@@ -93,7 +93,7 @@ pub fn length_of(kind: Kind) -> usize
 
 // The same for the kind's letter, as a driver that cuts a tape has it.
 pub fn entry_length(letter: u8) -> usize
-    ensures { result ≡ entryLength letter }
+    ensures { result ≡ entry_length letter }
 {
     length_of(kind_by(letter))
 }

@@ -1,6 +1,6 @@
 // Reading an entry that was judged into values. Each asks for the length that its kind fixes and for nothing else.
 ghost use Rattle.std.specs.Prelude.{◌≡◌, ◌+◌, ◌≤◌, length};
-ghost use Rattle.tape.specs.Entries.{stampOf, tokenEnd, namesOrder, tokenOf, executionOf, bookCancelOf, selfMatchOf, priorityOf, systemOf, stockStateOf, purges, purgeOf, blockingOf, messageIn, enterOf, replaceOf, cancelOf, modifyOf};
+ghost use Rattle.tape.specs.Entries.{stamp_of, token_end, names_order, token_of, execution_of, book_cancel_of, self_match_of, priority_of, system_of, stock_state_of, purges, purge_of, blocking_of, message_in, enter_of, replace_of, cancel_of, modify_of};
 
 use crate::entry::{
     Blocking, BookCancel, Execution, Priority, Purge, SelfMatch, StockState, System,
@@ -15,7 +15,7 @@ use wire::shares::Removed;
 // Every body opens with a stamp.
 pub fn stamp_of(entry: &[u8]) -> u64
     requires { 9 ≤ length entry.now }
-    ensures { result ≡ stampOf entry.now }
+    ensures { result ≡ stamp_of entry.now }
 {
     be64(entry, 1)
 }
@@ -24,7 +24,7 @@ pub fn stamp_of(entry: &[u8]) -> u64
 pub const TOKEN_END: usize = 23;
 
 pub fn names_order(entry: &[u8]) -> bool
-    ensures { result ≡ namesOrder entry.now }
+    ensures { result ≡ names_order entry.now }
 {
     TOKEN_END <= entry.len()
 }
@@ -41,15 +41,15 @@ pub fn purges(entry: &[u8]) -> bool
 
 // The token that an entry names first: the order that it is about, and in O the new one.
 pub fn token_of(entry: &[u8]) -> [u8; 14]
-    requires { tokenEnd ≤ length entry.now }
-    ensures { result ≡ tokenOf entry.now }
+    requires { token_end ≤ length entry.now }
+    ensures { result ≡ token_of entry.now }
 {
     bytes14_at(entry, 9)
 }
 
 pub fn execution_of(entry: &[u8]) -> Execution
     requires { length entry.now ≡ 40 }
-    ensures { result ≡ executionOf entry.now }
+    ensures { result ≡ execution_of entry.now }
 {
     Execution {
         shares: Removed(be32(entry, 23)),
@@ -61,7 +61,7 @@ pub fn execution_of(entry: &[u8]) -> Execution
 
 pub fn book_cancel_of(entry: &[u8]) -> BookCancel
     requires { length entry.now ≡ 28 }
-    ensures { result ≡ bookCancelOf entry.now }
+    ensures { result ≡ book_cancel_of entry.now }
 {
     BookCancel {
         shares: Removed(be32(entry, 23)),
@@ -71,7 +71,7 @@ pub fn book_cancel_of(entry: &[u8]) -> BookCancel
 
 pub fn self_match_of(entry: &[u8]) -> SelfMatch
     requires { length entry.now ≡ 36 }
-    ensures { result ≡ selfMatchOf entry.now }
+    ensures { result ≡ self_match_of entry.now }
 {
     SelfMatch {
         shares: Removed(be32(entry, 23)),
@@ -83,7 +83,7 @@ pub fn self_match_of(entry: &[u8]) -> SelfMatch
 
 pub fn priority_of(entry: &[u8]) -> Priority
     requires { length entry.now ≡ 27 }
-    ensures { result ≡ priorityOf entry.now }
+    ensures { result ≡ priority_of entry.now }
 {
     Priority {
         price: be32(entry, 23),
@@ -92,7 +92,7 @@ pub fn priority_of(entry: &[u8]) -> Priority
 
 pub fn system_of(entry: &[u8]) -> System
     requires { length entry.now ≡ 10 }
-    ensures { result ≡ systemOf entry.now }
+    ensures { result ≡ system_of entry.now }
 {
     System {
         event: byte_at(entry, 9),
@@ -101,7 +101,7 @@ pub fn system_of(entry: &[u8]) -> System
 
 pub fn stock_state_of(entry: &[u8]) -> StockState
     requires { length entry.now ≡ 18 }
-    ensures { result ≡ stockStateOf entry.now }
+    ensures { result ≡ stock_state_of entry.now }
 {
     StockState {
         symbol: bytes8_at(entry, 9),
@@ -111,7 +111,7 @@ pub fn stock_state_of(entry: &[u8]) -> StockState
 
 pub fn purge_of(entry: &[u8]) -> Purge
     requires { length entry.now ≡ 21 }
-    ensures { result ≡ purgeOf entry.now }
+    ensures { result ≡ purge_of entry.now }
 {
     Purge {
         firm: bytes4_at(entry, 9),
@@ -121,7 +121,7 @@ pub fn purge_of(entry: &[u8]) -> Purge
 
 pub fn blocking_of(entry: &[u8]) -> Blocking
     requires { length entry.now ≡ 13 }
-    ensures { result ≡ blockingOf entry.now }
+    ensures { result ≡ blocking_of entry.now }
 {
     Blocking {
         firm: bytes4_at(entry, 9),
@@ -131,35 +131,35 @@ pub fn blocking_of(entry: &[u8]) -> Blocking
 // From its eighth byte on an entry of a client is the client's message, but for the type's byte, at which no parser looks.
 fn message_in(entry: &[u8]) -> &[u8]
     requires { 8 ≤ length entry.now }
-    ensures { (result.now ≡ messageIn entry.now) × (length result.now + 8 ≡ length entry.now) }
+    ensures { (result.now ≡ message_in entry.now) × (length result.now + 8 ≡ length entry.now) }
 {
     &entry[8..]
 }
 
 pub fn enter_of(entry: &[u8]) -> EnterOrder
     requires { length entry.now ≡ 56 }
-    ensures { result ≡ enterOf entry.now }
+    ensures { result ≡ enter_of entry.now }
 {
     parse_enter_order(message_in(entry))
 }
 
 pub fn replace_of(entry: &[u8]) -> ReplaceOrder
     requires { length entry.now ≡ 55 }
-    ensures { result ≡ replaceOf entry.now }
+    ensures { result ≡ replace_of entry.now }
 {
     parse_replace_order(message_in(entry))
 }
 
 pub fn cancel_of(entry: &[u8]) -> CancelOrder
     requires { length entry.now ≡ 27 }
-    ensures { result ≡ cancelOf entry.now }
+    ensures { result ≡ cancel_of entry.now }
 {
     parse_cancel_order(message_in(entry))
 }
 
 pub fn modify_of(entry: &[u8]) -> ModifyOrder
     requires { length entry.now ≡ 28 }
-    ensures { result ≡ modifyOf entry.now }
+    ensures { result ≡ modify_of entry.now }
 {
     parse_modify_order(message_in(entry))
 }

@@ -4,8 +4,8 @@ use Rattle.octets.proofs.Proving.{Bool, List, List·Memᴰ·cases-cons, List·Me
 use Rattle.octets.specs.Bytes.{part, number_of}
 use Rattle.octets.specs.Choice.{among}
 use Rattle.wire.specs.Letters.{space}
-use Rattle.wire.specs.Text.{tokenByte}
-use Rattle.wire.specs.Layout.{Rule, free, below, between, one_of, legalToken, blank, Field, unless, badPlace, or_else, firstBadPlace, unbroken}
+use Rattle.wire.specs.Text.{token_byte}
+use Rattle.wire.specs.Layout.{Rule, free, below, between, one_of, legal_token, blank, Field, unless, bad_place, or_else, first_bad_place, unbroken}
 use Rattle.wire.specs.Legal.{LetterDigitOrSpace, Obeys, ◌∈◌, AllObey, BadByte, BadIn, FirstBad}
 use Rattle.wire.proofs.Layouts.{none_before, first-at, rest-unbroken}
 use Rattle.wire.proofs.Says.{Says, not_so, says-lt, says-within, says-token, says-among, says-are}
@@ -33,31 +33,31 @@ module _ {ok : Bool} {P : Type 0} (says : Says ok P) (at : ℕ) where
 
 -- ---- one field
 
-obeyed : (rule : Rule) (at : ℕ) (xs : List ℕ) → badPlace rule at xs ≡ none → Obeys rule xs
-unfolding badPlace Obeys
+obeyed : (rule : Rule) (at : ℕ) (xs : List ℕ) → bad_place rule at xs ≡ none → Obeys rule xs
+unfolding bad_place Obeys
 obeyed free at xs h = tt
 obeyed (below n) at xs h = whole-obeys (says-lt (number_of xs) n) at h
 obeyed (between low high) at xs h = whole-obeys (says-within low (number_of xs) high) at h
 obeyed (one_of letters) at xs h = whole-obeys (says-among letters (number_of xs)) at h
-obeyed legalToken at xs h = all_pass tokenByte LetterDigitOrSpace says-token at xs (sym (token-bytes at xs) ∙ h)
+obeyed legal_token at xs h = all_pass token_byte LetterDigitOrSpace says-token at xs (sym (token-bytes at xs) ∙ h)
 obeyed blank at xs h = whole-obeys (says-are space xs) at h
 
-clean : (rule : Rule) (at : ℕ) (xs : List ℕ) → Obeys rule xs → badPlace rule at xs ≡ none
-unfolding badPlace Obeys
+clean : (rule : Rule) (at : ℕ) (xs : List ℕ) → Obeys rule xs → bad_place rule at xs ≡ none
+unfolding bad_place Obeys
 clean free at xs h = refl
 clean (below n) at xs h = whole-clean (says-lt (number_of xs) n) at h
 clean (between low high) at xs h = whole-clean (says-within low (number_of xs) high) at h
 clean (one_of letters) at xs h = whole-clean (says-among letters (number_of xs)) at h
-clean legalToken at xs h = token-bytes at xs ∙ none_found tokenByte LetterDigitOrSpace says-token at xs h
+clean legal_token at xs h = token-bytes at xs ∙ none_found token_byte LetterDigitOrSpace says-token at xs h
 clean blank at xs h = whole-clean (says-are space xs) at h
 
-bad-there : (rule : Rule) (at : ℕ) (xs : List ℕ) (p : ℕ) → badPlace rule at xs ≡ some p → BadByte rule at xs p
-unfolding badPlace BadByte Obeys
+bad-there : (rule : Rule) (at : ℕ) (xs : List ℕ) (p : ℕ) → bad_place rule at xs ≡ some p → BadByte rule at xs p
+unfolding bad_place BadByte Obeys
 bad-there free at xs p h = no_place h
 bad-there (below n) at xs p h = whole-bad (says-lt (number_of xs) n) at h
 bad-there (between low high) at xs p h = whole-bad (says-within low (number_of xs) high) at h
 bad-there (one_of letters) at xs p h = whole-bad (says-among letters (number_of xs)) at h
-bad-there legalToken at xs p h = found-fails tokenByte LetterDigitOrSpace says-token at xs p (sym (token-bytes at xs) ∙ h)
+bad-there legal_token at xs p h = found-fails token_byte LetterDigitOrSpace says-token at xs p (sym (token-bytes at xs) ∙ h)
 bad-there blank at xs p h = whole-bad (says-are space xs) at h
 
 -- a bad byte lies in its field
@@ -67,21 +67,21 @@ bad-inside free at xs q b = absurd b
 bad-inside (below n) at xs q b = (omega (arith, b.0), omega (arith, b.0))
 bad-inside (between low high) at xs q b = (omega (arith, b.0), omega (arith, b.0))
 bad-inside (one_of letters) at xs q b = (omega (arith, b.0), omega (arith, b.0))
-bad-inside legalToken at xs q b = (omega (arith, b.1.0), omega (arith, b.1.0, b.1.1.0))
+bad-inside legal_token at xs q b = (omega (arith, b.1.0), omega (arith, b.1.0, b.1.1.0))
 bad-inside blank at xs q b = (omega (arith, b.0), omega (arith, b.0))
 
 -- and so does the place that is found
-pub bad-from : (rule : Rule) (at : ℕ) (xs : List ℕ) {p : ℕ} → badPlace rule at xs ≡ some p → at ≤ p
+pub bad-from : (rule : Rule) (at : ℕ) (xs : List ℕ) {p : ℕ} → bad_place rule at xs ≡ some p → at ≤ p
 bad-from rule at xs {p} h = (bad-inside rule at xs p (bad-there rule at xs p h)).0
 
-bad-first : (rule : Rule) (at : ℕ) (xs : List ℕ) (p : ℕ) → badPlace rule at xs ≡ some p → (q : ℕ) → BadByte rule at xs q → p ≤ q
-unfolding badPlace BadByte
+bad-first : (rule : Rule) (at : ℕ) (xs : List ℕ) (p : ℕ) → bad_place rule at xs ≡ some p → (q : ℕ) → BadByte rule at xs q → p ≤ q
+unfolding bad_place BadByte
 bad-first free at xs p h q b = absurd b
 bad-first (below n) at xs p h q b = omega (arith, (whole-bad (says-lt (number_of xs) n) at h).0, b.0)
 bad-first (between low high) at xs p h q b = omega (arith, (whole-bad (says-within low (number_of xs) high) at h).0, b.0)
 bad-first (one_of letters) at xs p h q b = omega (arith, (whole-bad (says-among letters (number_of xs)) at h).0, b.0)
-bad-first legalToken at xs p h q b =
-    omega (arith, b.1.0, found_first tokenByte LetterDigitOrSpace says-token at xs p (sym (token-bytes at xs) ∙ h) b.0 b.1.1.0 b.1.1.1)
+bad-first legal_token at xs p h q b =
+    omega (arith, b.1.0, found_first token_byte LetterDigitOrSpace says-token at xs p (sym (token-bytes at xs) ∙ h) b.0 b.1.1.0 b.1.1.1)
 bad-first blank at xs p h q b = omega (arith, (whole-bad (says-are space xs) at h).0, b.0)
 
 none-bad : (rule : Rule) (at : ℕ) (xs : List ℕ) → Obeys rule xs → (q : ℕ) → BadByte rule at xs q → ⊥
@@ -90,26 +90,26 @@ none-bad free at xs h q b = b
 none-bad (below n) at xs h q b = b.1 h
 none-bad (between low high) at xs h q b = b.1 h
 none-bad (one_of letters) at xs h q b = b.1 h
-none-bad legalToken at xs h q b = b.1.1.1 (h b.0 b.1.1.0)
+none-bad legal_token at xs h q b = b.1.1.1 (h b.0 b.1.1.0)
 none-bad blank at xs h q b = b.1 h
 
 -- ---- all fields
 
-pub all-obey : (fs : List Field) (s : List ℕ) → firstBadPlace fs s ≡ none → AllObey fs s
-unfolding firstBadPlace
+pub all-obey : (fs : List Field) (s : List ℕ) → first_bad_place fs s ≡ none → AllObey fs s
+unfolding first_bad_place
 all-obey [] s h f m = absurd (List·Memᴰ·not-nil m)
 all-obey (g ∷ fs) s h f m =
-    let b = none_before (badPlace g.rule g.at (part s g.at g.width)) (firstBadPlace fs s) h in
+    let b = none_before (bad_place g.rule g.at (part s g.at g.width)) (first_bad_place fs s) h in
     ⊎_elim
     (λ e. subst (λ (x : Field). Obeys x.rule (part s x.at x.width)) (sym e) (obeyed g.rule g.at (part s g.at g.width) b.0))
     (λ t. all-obey fs s b.1 f t)
     (List·Memᴰ·cases-cons m)
 
-pub no-bad-place : (fs : List Field) (s : List ℕ) → AllObey fs s → firstBadPlace fs s ≡ none
-unfolding firstBadPlace
+pub no-bad-place : (fs : List Field) (s : List ℕ) → AllObey fs s → first_bad_place fs s ≡ none
+unfolding first_bad_place
 no-bad-place [] s h = refl
 no-bad-place (g ∷ fs) s h =
-    ap (λ (o : Option ℕ). or_else o (firstBadPlace fs s)) (clean g.rule g.at (part s g.at g.width) (h g (List·Memᴰ·head refl)))
+    ap (λ (o : Option ℕ). or_else o (first_bad_place fs s)) (clean g.rule g.at (part s g.at g.width) (h g (List·Memᴰ·head refl)))
     ∙ no-bad-place fs s (λ f m. h f (List·Memᴰ·tail m))
 
 -- the fields behind stand further on
@@ -125,8 +125,8 @@ either : (x y : Option ℕ) {p : ℕ} → or_else x y ≡ some p → (x ≡ some
 either none y e = inr (refl, e)
 either (some at) y e = inl e
 
-pub first-bad : (fs : List Field) (at size : ℕ) (s : List ℕ) (p : ℕ) → unbroken at size fs ≡ true → firstBadPlace fs s ≡ some p → FirstBad fs s p
-unfolding firstBadPlace
+pub first-bad : (fs : List Field) (at size : ℕ) (s : List ℕ) (p : ℕ) → unbroken at size fs ≡ true → first_bad_place fs s ≡ some p → FirstBad fs s p
+unfolding first_bad_place
 first-bad [] at size s p u h = no_place h
 first-bad (g ∷ fs) at size s p u h =
     let xs : List ℕ = part s g.at g.width in
@@ -155,7 +155,7 @@ first-bad (g ∷ fs) at size s p u h =
           (λ m'. t.first f m' q b)
           (List·Memᴰ·cases-cons m);
     })
-    (either (badPlace g.rule g.at xs) (firstBadPlace fs s) h)
+    (either (bad_place g.rule g.at xs) (first_bad_place fs s) h)
 
 -- ---- there is one first bad place at most, none where all obey, and none before the fields
 

@@ -2,8 +2,8 @@
 use Rattle.octets.proofs.Proving.{Bool, List, Option, [], ◌&&◌, ◌+◌, ◌∙◌, ◌∷◌, ◌≡◌, ap, false, get_or, length, none, refl, some, sym, true, ℕ}
 use Rattle.octets.specs.Choice.{pick, all_below}
 use Rattle.octets.proofs.Below.{all_first}
-use Rattle.wire.specs.Text.{tokenByte}
-use Rattle.wire.specs.Layout.{badTokenByte, unless, or_else, is_none}
+use Rattle.wire.specs.Text.{token_byte}
+use Rattle.wire.specs.Layout.{bad_token_byte, unless, or_else, is_none}
 
 pub none-of-both : (a b : Option ℕ) → is_none (or_else a b) ≡ (is_none a && is_none b)
 none-of-both none b = refl
@@ -18,13 +18,13 @@ none-picked true a at = refl
 none-picked false a at = refl
 
 -- every byte is one that a token holds
-abbrev pub legalToken : List ℕ → Bool
-legalToken xs = all_below (length xs) (λ k. tokenByte (get_or xs k 0))
+abbrev pub legal_token : List ℕ → Bool
+legal_token xs = all_below (length xs) (λ k. token_byte (get_or xs k 0))
 
-pub token-bytes : (at : ℕ) (xs : List ℕ) → is_none (badTokenByte at xs) ≡ legalToken xs
-unfolding badTokenByte all_below
+pub token-bytes : (at : ℕ) (xs : List ℕ) → is_none (bad_token_byte at xs) ≡ legal_token xs
+unfolding bad_token_byte all_below
 token-bytes at [] = refl
 token-bytes at (b ∷ bs) =
-    none-picked (tokenByte b) (badTokenByte (1 + at) bs) at
-    ∙ ap (λ (t : Bool). tokenByte b && t) (token-bytes (1 + at) bs)
-    ∙ sym (all_first (λ k. tokenByte (get_or (b ∷ bs) k 0)) (length bs))
+    none-picked (token_byte b) (bad_token_byte (1 + at) bs) at
+    ∙ ap (λ (t : Bool). token_byte b && t) (token-bytes (1 + at) bs)
+    ∙ sym (all_first (λ k. token_byte (get_or (b ∷ bs) k 0)) (length bs))

@@ -1,14 +1,14 @@
 -- The sixteen messages by number: the constant tables say what the layouts say, and so do the places that the judge asks about.
 -- Assumes nothing.
-use Rattle.octets.proofs.Proving.{Bool, List, List·getD-eq-default, Option, T, [], ◌&&◌, ◌+◌, ◌<◌, ◌||◌, ◌∙◌, ◌∷◌, ◌≡◌, ◌≤◌, add-one, ap, ap₂, arith, dec_lt, drop, drop-cons, drop_of_length-le, eqb, eqb-true, false, get_or, get_or-take, le-ltb, le_of_suc-le-suc, leb, leb-true, length-take, lit<, lit≤, lt_of_le-ne, ltb, ltb-true, map, not-suc-le-zero, refl, some, subst, suc, sym, take, true, zero, ℕ, ℕ_discrete}
+use Rattle.octets.proofs.Proving.{Bool, List, List·get_d-eq-default, Option, T, [], ◌&&◌, ◌+◌, ◌<◌, ◌||◌, ◌∙◌, ◌∷◌, ◌≡◌, ◌≤◌, add-one, ap, ap₂, arith, dec_lt, drop, drop-cons, drop_of_length-le, eqb, eqb-true, false, get_or, get_or-take, le-ltb, le_of_suc-le-suc, leb, leb-true, length-take, lit<, lit≤, lt_of_le-ne, ltb, ltb-true, map, not-suc-le-zero, refl, some, subst, suc, sym, take, true, zero, ℕ, ℕ_discrete}
 use Prim.Native.Char.{code}
 use Rattle.octets.proofs.Below.{all-at, both}
 use Rattle.octets.specs.Choice.{pick, all_below}
-use Rattle.wire.specs.Limits.{longestMessage}
-use Rattle.wire.specs.Layout.{Layout, Field, shifted, stampAt, tokenAt, place, badPlace, firstBadPlace, layoutFor, unbroken, wellLaid}
+use Rattle.wire.specs.Limits.{longest_message}
+use Rattle.wire.specs.Layout.{Layout, Field, shifted, stamp_at, token_at, place, bad_place, first_bad_place, layout_for, unbroken, well_laid}
 use Rattle.wire.proofs.FirstNot.{no_place}
 use Rattle.wire.proofs.Found.{not-at-0}
-use Rattle.wire.specs.Messages.{messages, noMessage, messageLayout, sizeOr0, lengthFor}
+use Rattle.wire.specs.Messages.{messages, no_message, message_layout, size_or0, length_for}
 
 -- ---- a claim on every number below n, given one by one
 
@@ -51,30 +51,30 @@ pub length-fits : (k : ℕ) → k < 16 → get_or lengths k 0 ≤ 80
 unfolding all_below Tests
 length-fits k h = leb-true _ _ (tested (λ (i : ℕ). leb (get_or lengths i 0) 80) 16 refl k h)
 
-pub length-is : (k : ℕ) → k < 16 → get_or lengths k 0 ≡ (messageLayout k).size
+pub length-is : (k : ℕ) → k < 16 → get_or lengths k 0 ≡ (message_layout k).size
 unfolding all_below Tests
-length-is k h = eqb-true _ _ (tested (λ (i : ℕ). eqb (get_or lengths i 0) (messageLayout i).size) 16 refl k h)
+length-is k h = eqb-true _ _ (tested (λ (i : ℕ). eqb (get_or lengths i 0) (message_layout i).size) 16 refl k h)
 
-pub type-is : (k : ℕ) → k < 16 → get_or types k 0 ≡ (messageLayout k).code
+pub type-is : (k : ℕ) → k < 16 → get_or types k 0 ≡ (message_layout k).code
 unfolding all_below Tests
-type-is k h = eqb-true _ _ (tested (λ (i : ℕ). eqb (get_or types i 0) (messageLayout i).code) 16 refl k h)
+type-is k h = eqb-true _ _ (tested (λ (i : ℕ). eqb (get_or types i 0) (message_layout i).code) 16 refl k h)
 
 -- no message has a number from 16 on
-no-message : (k : ℕ) → 16 ≤ k → messageLayout k ≡ noMessage
-no-message k h = List·getD-eq-default messages noMessage {n = k} h
+no-message : (k : ℕ) → 16 ≤ k → message_layout k ≡ no_message
+no-message k h = List·get_d-eq-default messages no_message {n = k} h
 
-pub no_length : (k : ℕ) → 16 ≤ k → (messageLayout k).size ≡ 0
+pub no_length : (k : ℕ) → 16 ≤ k → (message_layout k).size ≡ 0
 no_length k h = ap (λ (l : Layout). l.size) (no-message k h)
 
-pub no-type : (k : ℕ) → 16 ≤ k → (messageLayout k).code ≡ 0
+pub no-type : (k : ℕ) → 16 ≤ k → (message_layout k).code ≡ 0
 no-type k h = ap (λ (l : Layout). l.code) (no-message k h)
 
-pub no-message-place : (k : ℕ) (s : List ℕ) → 16 ≤ k → place (firstBadPlace (messageLayout k).fields s) ≡ 0
-unfolding firstBadPlace
-no-message-place k s h = ap (λ (l : Layout). place (firstBadPlace l.fields s)) (no-message k h)
+pub no-message-place : (k : ℕ) (s : List ℕ) → 16 ≤ k → place (first_bad_place (message_layout k).fields s) ≡ 0
+unfolding first_bad_place
+no-message-place k s h = ap (λ (l : Layout). place (first_bad_place l.fields s)) (no-message k h)
 
 -- none is longer than the longest
-pub at-most-longest : (k : ℕ) → (messageLayout k).size ≤ longestMessage
+pub at-most-longest : (k : ℕ) → (message_layout k).size ≤ longest_message
 at-most-longest k =
     elim (dec_lt k 16) [
       | yes h ↦ omega (arith, length-is k h, length-fits k h)
@@ -83,29 +83,29 @@ at-most-longest k =
 
 -- what is asked of a layout, computed once for the sixteen: its fields leave no gap, and its type is a byte
 laid : Layout → Bool
-laid l = wellLaid l && ltb l.code 256
+laid l = well_laid l && ltb l.code 256
 
-pub well-laid : (k : ℕ) → k < 16 → (wellLaid (messageLayout k) ≡ true) × ((messageLayout k).code < 256)
-unfolding all_below Tests laid wellLaid unbroken
+pub well-laid : (k : ℕ) → k < 16 → (well_laid (message_layout k) ≡ true) × ((message_layout k).code < 256)
+unfolding all_below Tests laid well_laid unbroken
 well-laid k h =
-    let a = both (wellLaid (messageLayout k)) _ (tested (λ (j : ℕ). laid (messageLayout j)) 16 refl k h) in
-    (a.0, ltb-true (messageLayout k).code 256 a.1)
+    let a = both (well_laid (message_layout k)) _ (tested (λ (j : ℕ). laid (message_layout j)) 16 refl k h) in
+    (a.0, ltb-true (message_layout k).code 256 a.1)
 
 -- a place within message j lies within what has its length
-pub fits : {k j m n : ℕ} → k ≡ j → m ≡ (messageLayout k).size → T (leb n (messageLayout j).size) → n ≤ m
+pub fits : {k j m n : ℕ} → k ≡ j → m ≡ (message_layout k).size → T (leb n (message_layout j).size) → n ≤ m
 fits e l h = rw (l, e) (lit≤ h)
 
 -- and so it does where the message stands further on
-pub fits-from : (n from : ℕ) {k j m : ℕ} → k ≡ j → (messageLayout k).size + from ≤ m → T (leb n (messageLayout j).size) → n + from ≤ m
+pub fits-from : (n from : ℕ) {k j m : ℕ} → k ≡ j → (message_layout k).size + from ≤ m → T (leb n (message_layout j).size) → n + from ≤ m
 fits-from n from {k} {j} e l h =
-    let size : (messageLayout k).size ≡ (messageLayout j).size = ap (λ (i : ℕ). (messageLayout i).size) e in
-    let reach : n ≤ (messageLayout j).size = lit≤ h in
+    let size : (message_layout k).size ≡ (message_layout j).size = ap (λ (i : ℕ). (message_layout i).size) e in
+    let reach : n ≤ (message_layout j).size = lit≤ h in
     omega (arith, l, size, reach)
 
 -- every message of a client has room for a token
-pub inbound-long : (k : ℕ) → k < 4 → 15 ≤ (messageLayout k).size
+pub inbound-long : (k : ℕ) → k < 4 → 15 ≤ (message_layout k).size
 unfolding all_below Tests
-inbound-long k h = leb-true _ _ (tested (λ (i : ℕ). leb 15 (messageLayout i).size) 4 refl k h)
+inbound-long k h = leb-true _ _ (tested (λ (i : ℕ). leb 15 (message_layout i).size) 4 refl k h)
 
 -- what is none of the first three is the last
 pub last-inbound : {k : ℕ} → k < 4 → (k ≡ 0 → ⊥) → (k ≡ 1 → ⊥) → (k ≡ 2 → ⊥) → k ≡ 3
@@ -119,9 +119,9 @@ unmoved (f ∷ fs) =
     ap₂ (λ (at : ℕ) (gs : List Field). record { at = at; width = f.width; form = f.form; rule = f.rule } ∷ gs) same (unmoved fs)
 
 -- the messages from number 5 on have room for a stamp and a token
-pub long : (k : ℕ) → 4 < k → k < 16 → 23 ≤ (messageLayout k).size
+pub long : (k : ℕ) → 4 < k → k < 16 → 23 ≤ (message_layout k).size
 unfolding all_below Tests
-long k l h = leb-true _ _ (either _ _ (tested (λ (i : ℕ). ltb i 5 || leb 23 (messageLayout i).size) 16 refl k h) (le-ltb k 5 l))
+long k l h = leb-true _ _ (either _ _ (tested (λ (i : ℕ). ltb i 5 || leb 23 (message_layout i).size) 16 refl k h) (le-ltb k 5 l))
   where
     either : (x y : Bool) → (x || y) ≡ true → x ≡ false → y ≡ true
     either true y e f = let z : ◌≡◌ {A = ℕ} 0 1 = cc in absurd (omega arith)
@@ -130,49 +130,49 @@ long k l h = leb-true _ _ (either _ _ (tested (λ (i : ℕ). ltb i 5 || leb 23 (
 -- ---- one message more in the search for a type
 
 pub among_next : (k to letter : ℕ) → k < to → to ≤ 16
-    → lengthFor (drop k (take to messages)) letter
-    ≡ pick (eqb (messageLayout k).code letter) (messageLayout k).size (lengthFor (drop (k + 1) (take to messages)) letter)
-unfolding lengthFor layoutFor
+    → length_for (drop k (take to messages)) letter
+    ≡ pick (eqb (message_layout k).code letter) (message_layout k).size (length_for (drop (k + 1) (take to messages)) letter)
+unfolding length_for layout_for
 among_next k to letter h l =
-    let m : get_or (take to messages) k noMessage ≡ messageLayout k = get_or-take to messages k noMessage h in
-    let e : drop k (take to messages) ≡ messageLayout k ∷ drop (suc k) (take to messages) =
-    drop-cons (take to messages) k noMessage (simp length-take (omega arith)) ∙ ap (λ (x : Layout). x ∷ drop (suc k) (take to messages)) m in
-    ap (λ (ls : List Layout). sizeOr0 (layoutFor ls letter)) e ∙ rw add-one (chosen (eqb (messageLayout k).code letter) (messageLayout k) (layoutFor (drop (suc k) (take to messages)) letter))
+    let m : get_or (take to messages) k no_message ≡ message_layout k = get_or-take to messages k no_message h in
+    let e : drop k (take to messages) ≡ message_layout k ∷ drop (suc k) (take to messages) =
+    drop-cons (take to messages) k no_message (simp length-take (omega arith)) ∙ ap (λ (x : Layout). x ∷ drop (suc k) (take to messages)) m in
+    ap (λ (ls : List Layout). size_or0 (layout_for ls letter)) e ∙ rw add-one (chosen (eqb (message_layout k).code letter) (message_layout k) (layout_for (drop (suc k) (take to messages)) letter))
   where
-    chosen : (b : Bool) (x : Layout) (y : Option Layout) → sizeOr0 (pick b (some x) y) ≡ pick b x.size (sizeOr0 y)
+    chosen : (b : Bool) (x : Layout) (y : Option Layout) → size_or0 (pick b (some x) y) ≡ pick b x.size (size_or0 y)
     chosen true x y = refl
     chosen false x y = refl
 
-pub among-end : (k to letter : ℕ) → to ≤ k → lengthFor (drop k (take to messages)) letter ≡ 0
-unfolding lengthFor layoutFor
+pub among-end : (k to letter : ℕ) → to ≤ k → length_for (drop k (take to messages)) letter ≡ 0
+unfolding length_for layout_for
 among-end k to letter h =
-    ap (λ (ls : List Layout). sizeOr0 (layoutFor ls letter)) (drop_of_length-le (take to messages) {i = k} (simp length-take (omega arith)))
+    ap (λ (ls : List Layout). size_or0 (layout_for ls letter)) (drop_of_length-le (take to messages) {i = k} (simp length-take (omega arith)))
 
 -- ---- the places that the judge asks about, as code hands them about
 
 -- message k's
-abbrev firstOfMessage : ℕ → List ℕ → ℕ
-firstOfMessage k s = place (firstBadPlace (messageLayout k).fields s)
+abbrev first_of_message : ℕ → List ℕ → ℕ
+first_of_message k s = place (first_bad_place (message_layout k).fields s)
 
 -- all others that the host sends have a stamp and a token
-pub stamp-or-token : (s : List ℕ) (k : ℕ) → k < 16 → 4 < k → (k ≡ 6 → ⊥) → firstOfMessage k s ≡ place (firstBadPlace (stampAt 1 ∷ tokenAt 9 ∷ []) s)
-unfolding firstBadPlace badPlace
+pub stamp-or-token : (s : List ℕ) (k : ℕ) → k < 16 → 4 < k → (k ≡ 6 → ⊥) → first_of_message k s ≡ place (first_bad_place (stamp_at 1 ∷ token_at 9 ∷ []) s)
+unfolding first_bad_place bad_place
 stamp-or-token s =
-    each (λ (k : ℕ). 4 < k → (k ≡ 6 → ⊥) → firstOfMessage k s ≡ place (firstBadPlace (stampAt 1 ∷ tokenAt 9 ∷ []) s)) 16
+    each (λ (k : ℕ). 4 < k → (k ≡ 6 → ⊥) → first_of_message k s ≡ place (first_bad_place (stamp_at 1 ∷ token_at 9 ∷ []) s)) 16
     (tt more no 0 tt more no 1 tt more no 2 tt more no 3 tt more no 4 tt more both more (λ h d. absurd (d refl)) more both more both more both more both
     more both more both more both more both more both)
   where
     no : (k : ℕ) → T (ltb k 5) → {P D : Type 0} → 4 < k → D → P
     no k few h d = let l : k < 5 = lit< few in absurd (omega arith)
 
-    both : {h : Type 0} {d : Type 0} → h → d → place (firstBadPlace (stampAt 1 ∷ tokenAt 9 ∷ []) s) ≡ place (firstBadPlace (stampAt 1 ∷ tokenAt 9 ∷ []) s)
+    both : {h : Type 0} {d : Type 0} → h → d → place (first_bad_place (stamp_at 1 ∷ token_at 9 ∷ []) s) ≡ place (first_bad_place (stamp_at 1 ∷ token_at 9 ∷ []) s)
     both h d = refl
 
 -- no message has a bad byte at 0
-pub none-at-0 : (k : ℕ) (s : List ℕ) → firstBadPlace (messageLayout k).fields s ≡ some 0 → ⊥
-unfolding wellLaid firstBadPlace
+pub none-at-0 : (k : ℕ) (s : List ℕ) → first_bad_place (message_layout k).fields s ≡ some 0 → ⊥
+unfolding well_laid first_bad_place
 none-at-0 k s e =
     elim (dec_lt k 16) [
-      | yes h ↦ not-at-0 (messageLayout k).fields (messageLayout k).size (well-laid k h).0 s e
-      | no h ↦ no_place (sym (ap (λ (l : Layout). firstBadPlace l.fields s) (no-message k (omega arith))) ∙ e)
+      | yes h ↦ not-at-0 (message_layout k).fields (message_layout k).size (well-laid k h).0 s e
+      | no h ↦ no_place (sym (ap (λ (l : Layout). first_bad_place l.fields s) (no-message k (omega arith))) ∙ e)
     ]

@@ -2,11 +2,11 @@
 use Rattle.octets.proofs.Proving.{Bool, List, ◌&&◌, ◌<◌, ◌||◌, ◌∙◌, ◌≡◌, ◌≤◌, ◌⊎◌, ap, ap₂, arith, eq-eqb, eqb, eqb-true, false, get_or, inl, inr, le-leb, leb, leb-true, length, lt-ltb, ltb, ltb-true, or_assoc, refl, subst, sym, true, ℕ, ⊎_elim}
 use Prim.Native.Char.{code}
 use Prim.Native.String as Text
-use Rattle.octets.specs.Bytes.{allAre}
+use Rattle.octets.specs.Bytes.{all_are}
 use Rattle.octets.specs.Choice.{among}
 use Rattle.octets.proofs.Below.{both, all-at, all-each, are-below}
 use Rattle.wire.specs.Letters.{space}
-use Rattle.wire.specs.Text.{tokenByte, capital, small, digit}
+use Rattle.wire.specs.Text.{token_byte, capital, small, digit}
 use Rattle.wire.specs.Legal.{LetterDigitOrSpace, OneOf}
 
 pub record Says (t : Bool) (P : Type 0) : Type 0 where
@@ -61,8 +61,8 @@ module _ {s t : Bool} {P Q : Type 0} (p : Says s P) (q : Says t Q) where
 pub says-within : (low b high : ℕ) → Says (leb low b && leb b high) ((low ≤ b) × (b ≤ high))
 says-within low b high = says-and (says-le low b) (says-le b high)
 
-pub says-token : (b : ℕ) → Says (tokenByte b) (LetterDigitOrSpace b)
-unfolding tokenByte capital small digit
+pub says-token : (b : ℕ) → Says (token_byte b) (LetterDigitOrSpace b)
+unfolding token_byte capital small digit
 says-token b =
     subst (λ (t : Bool). Says t (LetterDigitOrSpace b)) (sym (or_assoc (capital b || small b) (digit b) (eqb b space) ∙ or_assoc (capital b) (small b) (digit b || eqb b space)))
     (says-or (says-within (code "A") b (code "Z")) (says-or (says-within (code "a") b (code "z")) (says-or (says-within (code "0") b (code "9")) (says_eq b space))))
@@ -72,7 +72,7 @@ unfolding among
 says-among Text.[] b = record { so = λ e. differ (sym e); test = λ h. absurd h }
 says-among (Text.◌∷◌ c cs) b = says-or (says_eq b (code c)) (says-among cs b)
 
-pub says-are : (x : ℕ) (xs : List ℕ) → Says (allAre x xs) ((i : ℕ) → i < length xs → get_or xs i 0 ≡ x)
+pub says-are : (x : ℕ) (xs : List ℕ) → Says (all_are x xs) ((i : ℕ) → i < length xs → get_or xs i 0 ≡ x)
 says-are x xs = record {
   so = λ e i h. eqb-true _ _ (all-at (λ k. eqb (get_or xs k 0) x) (length xs) i (sym (are-below x xs) ∙ e) h);
   test = λ h. are-below x xs ∙ all-each (λ k. eqb (get_or xs k 0) x) (length xs) (λ k l. eq-eqb _ _ (h k l));

@@ -1,13 +1,13 @@
 -- Capitals, then spaces, judged from left to right: what one byte more does to the verdict. Assumes nothing.
 use Rattle.octets.proofs.Proving.{Bool, List, [], ◌&&◌, ◌+◌, ◌<◌, ◌||◌, ◌∷◌, ◌≡◌, ◌≤◌, add-one, and-true, arith, drop, drop-cons, drop_of_length-le, eqb, false, get_or, leb, leb-true, length, ne_eqb, not, refl, suc, true, ℕ}
 use Rattle.octets.specs.Choice.{pick}
-use Rattle.octets.specs.Bytes.{allAre}
+use Rattle.octets.specs.Bytes.{all_are}
 use Rattle.wire.specs.Letters.{space}
-use Rattle.wire.specs.Text.{capital, capitalsThenSpaces, shaped}
+use Rattle.wire.specs.Text.{capital, capitals_then_spaces, shaped}
 
 -- what may still come: only spaces once a space has come
 abbrev pub rest : Bool → List ℕ → Bool
-rest blank xs = pick blank (allAre space xs) (capitalsThenSpaces xs)
+rest blank xs = pick blank (all_are space xs) (capitals_then_spaces xs)
 
 -- a capital is no space
 no-space : (b : ℕ) → capital b ≡ true → eqb b space ≡ false
@@ -34,11 +34,11 @@ judged false false true false spaces shapely h = refl
 pub shaped-next : (s : List ℕ) (i : ℕ) (ok blank : Bool) → i < length s
     → (ok && rest blank (drop i s))
     ≡ ((ok && (eqb (get_or s i 0) space || (not blank && capital (get_or s i 0)))) && rest (blank || eqb (get_or s i 0) space) (drop (i + 1) s))
-unfolding capitalsThenSpaces allAre
+unfolding capitals_then_spaces all_are
 shaped-next s i ok blank h =
     let b : ℕ = get_or s i 0 in
     let xs : List ℕ = drop (suc i) s in
-    rw (add-one, drop-cons s i 0) (judged (capital b) (eqb b space) ok blank (allAre space xs) (capitalsThenSpaces xs) (no-space b))
+    rw (add-one, drop-cons s i 0) (judged (capital b) (eqb b space) ok blank (all_are space xs) (capitals_then_spaces xs) (no-space b))
 
 pub shaped-none : (s : List ℕ) → length s ≡ 0 → shaped s ≡ false
 unfolding shaped
@@ -52,6 +52,6 @@ shaped-first (b ∷ bs) h = refl
 
 -- none is left
 pub shaped-end : (s : List ℕ) (i : ℕ) (ok blank : Bool) → length s ≤ i → (ok && rest blank (drop i s)) ≡ ok
-unfolding capitalsThenSpaces allAre
+unfolding capitals_then_spaces all_are
 shaped-end s i ok true h = rw (drop_of_length-le s {i = i} h) (and-true ok)
 shaped-end s i ok false h = rw (drop_of_length-le s {i = i} h) (and-true ok)

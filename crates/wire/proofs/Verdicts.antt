@@ -3,34 +3,34 @@ use Rattle.octets.proofs.Proving.{Bool, List, Option, ◌&&◌, ◌++◌, ◌∙
 use Rattle.octets.specs.Choice.{◌⇒◌⨾◌}
 use Rattle.octets.specs.Bytes.{put}
 use Rattle.octets.proofs.Below.{both}
-use Rattle.answers.specs.Answer.{isDone, ifDone}
+use Rattle.answers.specs.Answer.{is_done, if_done}
 use Rattle.answers.specs.declared.Answer.{Answer}
 use Rattle.answers.specs.declared.Answer.TheVariants.{Done, Malformed, BadField, NoRoom}
 use Rattle.answers.proofs.Laws.{is-done}
-use Rattle.wire.specs.Layout.{Layout, place, firstBadPlace}
-use Rattle.wire.specs.Messages.{badAt◌⨾◌, placeAnswer, framed, readAnswer, writeAnswer, bufferAfter}
+use Rattle.wire.specs.Layout.{Layout, place, first_bad_place}
+use Rattle.wire.specs.Messages.{bad_at◌⨾◌, place_answer, framed, read_answer, write_answer, buffer_after}
 
 -- a place answers as code hands it about
-pub told : (o : Option ℕ) (next : Answer) → (o ≡ some 0 → ⊥) → placeAnswer (place o) next ≡ (badAt o ⨾ next)
+pub told : (o : Option ℕ) (next : Answer) → (o ≡ some 0 → ⊥) → place_answer (place o) next ≡ (bad_at o ⨾ next)
 told none next h = refl
 told (some at) next h = let n = ne_eqb at 0 (λ e. h (rw e)) in rw n
 
 module _ (l : Layout) (s : List ℕ) where
-  pub wrong-length : (length s ≡ l.size → ⊥) → readAnswer l s ≡ Malformed
-  unfolding readAnswer
+  pub wrong-length : (length s ≡ l.size → ⊥) → read_answer l s ≡ Malformed
+  unfolding read_answer
   wrong-length h = rw (ne_eqb (length s) l.size h)
 
-  pub wrong_type : length s ≡ l.size → (get_or s 0 0 ≡ l.code → ⊥) → readAnswer l s ≡ Malformed
-  unfolding readAnswer
+  pub wrong_type : length s ≡ l.size → (get_or s 0 0 ≡ l.code → ⊥) → read_answer l s ≡ Malformed
+  unfolding read_answer
   wrong_type e h = rw (eq-eqb (length s) l.size e, ne_eqb (get_or s 0 0) l.code h)
 
-  pub judged : length s ≡ l.size → get_or s 0 0 ≡ l.code → readAnswer l s ≡ (badAt firstBadPlace l.fields s ⨾ Done)
-  unfolding readAnswer
+  pub judged : length s ≡ l.size → get_or s 0 0 ≡ l.code → read_answer l s ≡ (bad_at first_bad_place l.fields s ⨾ Done)
+  unfolding read_answer
   judged e t = rw (eq-eqb (length s) l.size e, eq-eqb (get_or s 0 0) l.code t)
 
   -- the same of a frame that was asked for at once, as code does
-  pub unframed : framed l.size l.code s ≡ false → Malformed ≡ readAnswer l s
-  unfolding readAnswer
+  pub unframed : framed l.size l.code s ≡ false → Malformed ≡ read_answer l s
+  unfolding read_answer
   unframed h = either (eqb (length s) l.size) (eqb (get_or s 0 0) l.code) _ h
     where
       either : (a b : Bool) (next : Answer) → (a && b) ≡ false → Malformed ≡ (not a ⇒ Malformed ⨾ not b ⇒ Malformed ⨾ next)
@@ -45,47 +45,47 @@ module _ (l : Layout) (s : List ℕ) where
   pub framed-long : framed l.size l.code s ≡ true → length s ≡ l.size
   framed-long h = eqb-true _ _ (both _ (eqb (get_or s 0 0) l.code) h).0
 
-  pub framed-judged : framed l.size l.code s ≡ true → (firstBadPlace l.fields s ≡ some 0 → ⊥) → {found : ℕ} {answer : Answer}
-      → found ≡ place (firstBadPlace l.fields s) → answer ≡ placeAnswer found Done → answer ≡ readAnswer l s
+  pub framed-judged : framed l.size l.code s ≡ true → (first_bad_place l.fields s ≡ some 0 → ⊥) → {found : ℕ} {answer : Answer}
+      → found ≡ place (first_bad_place l.fields s) → answer ≡ place_answer found Done → answer ≡ read_answer l s
   framed-judged h behind f a =
-      a ∙ ap (λ (p : ℕ). placeAnswer p Done) f ∙ told (firstBadPlace l.fields s) Done behind
+      a ∙ ap (λ (p : ℕ). place_answer p Done) f ∙ told (first_bad_place l.fields s) Done behind
       ∙ sym (judged (framed-long h) (eqb-true _ _ (both (eqb (length s) l.size) _ h).1))
 
-  pub bad-field : {at : ℕ} → length s ≡ l.size → get_or s 0 0 ≡ l.code → firstBadPlace l.fields s ≡ some at → readAnswer l s ≡ BadField at
-  bad-field e t p = judged e t ∙ ap (λ (o : Option ℕ). badAt o ⨾ Done) p
+  pub bad-field : {at : ℕ} → length s ≡ l.size → get_or s 0 0 ≡ l.code → first_bad_place l.fields s ≡ some at → read_answer l s ≡ BadField at
+  bad-field e t p = judged e t ∙ ap (λ (o : Option ℕ). bad_at o ⨾ Done) p
 
-  pub legal : length s ≡ l.size → get_or s 0 0 ≡ l.code → firstBadPlace l.fields s ≡ none → readAnswer l s ≡ Done
-  legal e t p = judged e t ∙ ap (λ (o : Option ℕ). badAt o ⨾ Done) p
+  pub legal : length s ≡ l.size → get_or s 0 0 ≡ l.code → first_bad_place l.fields s ≡ none → read_answer l s ≡ Done
+  legal e t p = judged e t ∙ ap (λ (o : Option ℕ). bad_at o ⨾ Done) p
 
 -- a done writer has room
-pub room : (l : Layout) (m buffer : List ℕ) → writeAnswer l m buffer ≡ Done → l.size ≤ length buffer
-unfolding writeAnswer
-room l m buffer e = go (firstBadPlace l.fields m) (ltb (length buffer) l.size) refl e
+pub room : (l : Layout) (m buffer : List ℕ) → write_answer l m buffer ≡ Done → l.size ≤ length buffer
+unfolding write_answer
+room l m buffer e = go (first_bad_place l.fields m) (ltb (length buffer) l.size) refl e
   where
-    go : (o : Option ℕ) (b : Bool) → ltb (length buffer) l.size ≡ b → (badAt o ⨾ b ⇒ NoRoom ⨾ Done) ≡ Done → l.size ≤ length buffer
+    go : (o : Option ℕ) (b : Bool) → ltb (length buffer) l.size ≡ b → (bad_at o ⨾ b ⇒ NoRoom ⨾ Done) ≡ Done → l.size ≤ length buffer
     go none false f e = ltb-false (length buffer) l.size f
     go none true f e = let z : ◌≡◌ {A = ℕ} 0 1 = cc in absurd (omega arith)
     go (some at) b f e = let z : ◌≡◌ {A = ℕ} 0 1 = cc in absurd (omega arith)
 
 -- a writer of the first n bytes of what was spelled, n as the code has it, by what the code found and what it would answer then
 module _ (l : Layout) (spelled buffer : List ℕ) {n : ℕ} (e : n ≡ l.size) {found : ℕ} {next answer : Answer}
-    (f : found ≡ place (firstBadPlace l.fields (take n spelled))) (g : next ≡ (ltb (length buffer) l.size ⇒ NoRoom ⨾ Done))
-    (h : answer ≡ placeAnswer found next) (behind : firstBadPlace l.fields (take l.size spelled) ≡ some 0 → ⊥) where
-  pub answers : answer ≡ writeAnswer l (take l.size spelled) buffer
-  unfolding writeAnswer
-  answers = rw (h, f, g, e) (told (firstBadPlace l.fields (take l.size spelled)) (ltb (length buffer) l.size ⇒ NoRoom ⨾ Done) behind)
+    (f : found ≡ place (first_bad_place l.fields (take n spelled))) (g : next ≡ (ltb (length buffer) l.size ⇒ NoRoom ⨾ Done))
+    (h : answer ≡ place_answer found next) (behind : first_bad_place l.fields (take l.size spelled) ≡ some 0 → ⊥) where
+  pub answers : answer ≡ write_answer l (take l.size spelled) buffer
+  unfolding write_answer
+  answers = rw (h, f, g, e) (told (first_bad_place l.fields (take l.size spelled)) (ltb (length buffer) l.size ⇒ NoRoom ⨾ Done) behind)
 
-  pub roomy : isDone answer ≡ true → l.size ≤ length buffer
+  pub roomy : is_done answer ≡ true → l.size ≤ length buffer
   roomy d = room l (take l.size spelled) buffer (sym answers ∙ is-done answer d)
 
-  pub not-sent : isDone answer ≡ false
-      → (answer ≡ writeAnswer l (take l.size spelled) buffer) × (buffer ≡ bufferAfter l (take l.size spelled) buffer)
-  unfolding bufferAfter ifDone
+  pub not-sent : is_done answer ≡ false
+      → (answer ≡ write_answer l (take l.size spelled) buffer) × (buffer ≡ buffer_after l (take l.size spelled) buffer)
+  unfolding buffer_after if_done
   not-sent d = (answers, rw (← answers, d))
 
-  pub sent : isDone answer ≡ true → l.size ≤ length spelled → {exit : List ℕ} → exit ≡ put buffer 0 (take n spelled)
-      → (answer ≡ writeAnswer l (take l.size spelled) buffer) × (exit ≡ bufferAfter l (take l.size spelled) buffer)
-  unfolding bufferAfter ifDone
+  pub sent : is_done answer ≡ true → l.size ≤ length spelled → {exit : List ℕ} → exit ≡ put buffer 0 (take n spelled)
+      → (answer ≡ write_answer l (take l.size spelled) buffer) × (exit ≡ buffer_after l (take l.size spelled) buffer)
+  unfolding buffer_after if_done
   sent d whole {exit} x =
       let long : length (take l.size spelled) ≡ l.size = length-take-le l.size spelled whole in
       let y : exit ≡ take l.size spelled ++ drop l.size buffer =

@@ -4,10 +4,10 @@ use Rattle.std.specs.Prelude.{◌≡◌, ℕ, ◌+◌, ◌^◌, ◌<◌, Bool, t
 use Prim.Native.String.{String}
 use Rattle.std.proofs.Math.Option.{Option, none, some}
 use Rattle.octets.specs.Choice.{pick, among}
-use Rattle.wire.specs.Letters.{space, sides, sweeps, liquidityFlags, bookReasons, systemEvents, stockStates}
-use Rattle.wire.specs.Limits.{stampEnd, tokenSize, lowestPrice, highestPrice}
-use Rattle.octets.specs.Bytes.{part, put, number_of, digits, allAre}
-use Rattle.wire.specs.Text.{tokenByte}
+use Rattle.wire.specs.Letters.{space, sides, sweeps, liquidity_flags, book_reasons, system_events, stock_states}
+use Rattle.wire.specs.Limits.{stamp_end, token_size, lowest_price, highest_price}
+use Rattle.octets.specs.Bytes.{part, put, number_of, digits, all_are}
+use Rattle.wire.specs.Text.{token_byte}
 
 -- a field holds a number or a text
 pub data Form : Type 0 where
@@ -20,7 +20,7 @@ pub data Rule : Type 0 where
   below : ℕ → Rule
   between : ℕ → ℕ → Rule
   one_of : String → Rule
-  legalToken : Rule
+  legal_token : Rule
   blank : Rule
 
 pub record Field : Type 0 where
@@ -34,50 +34,50 @@ pub record Field : Type 0 where
 abbrev pub whole_at : ℕ → ℕ → Field
 whole_at at width = record { at = at; width = width; form = number; rule = free }
 
-abbrev pub letterAt : ℕ → Field
-letterAt at = whole_at at 1
+abbrev pub letter_at : ℕ → Field
+letter_at at = whole_at at 1
 
-abbrev pub textAt : ℕ → ℕ → Field
-textAt at width = record { at = at; width = width; form = bytes; rule = free }
+abbrev pub text_at : ℕ → ℕ → Field
+text_at at width = record { at = at; width = width; form = bytes; rule = free }
 
-abbrev pub rangeAt : ℕ → ℕ → ℕ → ℕ → Field
-rangeAt at width low high = record { at = at; width = width; form = number; rule = between low high }
+abbrev pub range_at : ℕ → ℕ → ℕ → ℕ → Field
+range_at at width low high = record { at = at; width = width; form = number; rule = between low high }
 
-abbrev pub oneOfAt : ℕ → String → Field
-oneOfAt at letters = record { at = at; width = 1; form = number; rule = one_of letters }
+abbrev pub one_of_at : ℕ → String → Field
+one_of_at at letters = record { at = at; width = 1; form = number; rule = one_of letters }
 
 -- spaces and nothing else
-abbrev pub blankAt : ℕ → ℕ → Field
-blankAt at width = record { at = at; width = width; form = bytes; rule = blank }
+abbrev pub blank_at : ℕ → ℕ → Field
+blank_at at width = record { at = at; width = width; form = bytes; rule = blank }
 
 -- a stamp is below 86,400,000,000,000
-abbrev pub stampAt : ℕ → Field
-stampAt at = record { at = at; width = 8; form = number; rule = below stampEnd }
+abbrev pub stamp_at : ℕ → Field
+stamp_at at = record { at = at; width = 8; form = number; rule = below stamp_end }
 
 -- fourteen letters, digits and spaces
-abbrev pub tokenAt : ℕ → Field
-tokenAt at = record { at = at; width = tokenSize; form = bytes; rule = legalToken }
+abbrev pub token_at : ℕ → Field
+token_at at = record { at = at; width = token_size; form = bytes; rule = legal_token }
 
-abbrev pub sideAt : ℕ → Field
-sideAt at = oneOfAt at sides
+abbrev pub side_at : ℕ → Field
+side_at at = one_of_at at sides
 
-abbrev pub sweepAt : ℕ → Field
-sweepAt at = oneOfAt at sweeps
+abbrev pub sweep_at : ℕ → Field
+sweep_at at = one_of_at at sweeps
 
-abbrev pub liquidityAt : ℕ → Field
-liquidityAt at = oneOfAt at liquidityFlags
+abbrev pub liquidity_at : ℕ → Field
+liquidity_at at = one_of_at at liquidity_flags
 
-abbrev pub bookReasonAt : ℕ → Field
-bookReasonAt at = oneOfAt at bookReasons
+abbrev pub book_reason_at : ℕ → Field
+book_reason_at at = one_of_at at book_reasons
 
-abbrev pub systemEventAt : ℕ → Field
-systemEventAt at = oneOfAt at systemEvents
+abbrev pub system_event_at : ℕ → Field
+system_event_at at = one_of_at at system_events
 
-abbrev pub stockStateAt : ℕ → Field
-stockStateAt at = oneOfAt at stockStates
+abbrev pub stock_state_at : ℕ → Field
+stock_state_at at = one_of_at at stock_states
 
-abbrev pub limitPriceAt : ℕ → Field
-limitPriceAt at = rangeAt at 4 lowestPrice highestPrice
+abbrev pub limit_price_at : ℕ → Field
+limit_price_at at = range_at at 4 lowest_price highest_price
 
 -- ---- the values of fields, read from bytes and spelled as bytes
 
@@ -94,25 +94,25 @@ infixr 20 ◌&◌
 abbrev pub ◌&◌ : {A B : Type 0} → A → B → A × B
 a & b = (a, b)
 
-abbrev pub readValue : (form : Form) → List ℕ → Value form
-readValue number xs = number_of xs
-readValue bytes xs = xs
+abbrev pub read_value : (form : Form) → List ℕ → Value form
+read_value number xs = number_of xs
+read_value bytes xs = xs
 
-abbrev pub spellValue : (form : Form) → ℕ → Value form → List ℕ
-spellValue number width v = digits width v
-spellValue bytes width v = v
+abbrev pub spell_value : (form : Form) → ℕ → Value form → List ℕ
+spell_value number width v = digits width v
+spell_value bytes width v = v
 
 -- a field's value, of all the bytes
 abbrev pub get : (f : Field) → List ℕ → Value f.form
-get f s = readValue f.form (part s f.at f.width)
+get f s = read_value f.form (part s f.at f.width)
 
-abbrev pub readFields : (fs : List Field) → List ℕ → Values fs
-readFields [] s = tt
-readFields (f ∷ fs) s = (get f s, readFields fs s)
+abbrev pub read_fields : (fs : List Field) → List ℕ → Values fs
+read_fields [] s = tt
+read_fields (f ∷ fs) s = (get f s, read_fields fs s)
 
-abbrev pub spellFields : (fs : List Field) → Values fs → List ℕ
-spellFields [] v = []
-spellFields (f ∷ fs) v = spellValue f.form f.width v.0 ++ spellFields fs v.1
+abbrev pub spell_fields : (fs : List Field) → Values fs → List ℕ
+spell_fields [] v = []
+spell_fields (f ∷ fs) v = spell_value f.form f.width v.0 ++ spell_fields fs v.1
 
 -- u is t with a field's value put at its offset, a text as wide as the field
 abbrev pub PutField : (form : Form) → ℕ → ℕ → Value form → List ℕ → List ℕ → Type 0
@@ -127,9 +127,9 @@ pub data PutFields : (fs : List Field) → Values fs → List ℕ → List ℕ �
       → PutField f.form f.at f.width v t m → PutFields fs vs m u → PutFields (f ∷ fs) (v, vs) t u
 
 -- the values of some fields and of those behind them
-abbrev pub bothValues : (fs gs : List Field) → Values fs → Values gs → Values (fs ++ gs)
-bothValues [] gs v w = w
-bothValues (f ∷ fs) gs v w = (v.0, bothValues fs gs v.1 w)
+abbrev pub both_values : (fs gs : List Field) → Values fs → Values gs → Values (fs ++ gs)
+both_values [] gs v w = w
+both_values (f ∷ fs) gs v w = (v.0, both_values fs gs v.1 w)
 
 -- a value that its field can hold: a number below 256 to the width, a text of the width
 abbrev pub FitsField : (form : Form) → ℕ → Value form → Type 0
@@ -146,9 +146,9 @@ abbrev pub FromFields : List Field → Type 0 → Type 0
 FromFields [] R = R
 FromFields (f ∷ fs) R = Value f.form → FromFields fs R
 
-abbrev pub oneByOne : {R : Type 0} (fs : List Field) → (Values fs → R) → FromFields fs R
-oneByOne [] k = k tt
-oneByOne (f ∷ fs) k = λ v. oneByOne fs (λ vs. k (v, vs))
+abbrev pub one_by_one : {R : Type 0} (fs : List Field) → (Values fs → R) → FromFields fs R
+one_by_one [] k = k tt
+one_by_one (f ∷ fs) k = λ v. one_by_one fs (λ vs. k (v, vs))
 
 abbrev pub at_once : {R : Type 0} (fs : List Field) → FromFields fs R → Values fs → R
 at_once [] r v = r
@@ -160,38 +160,38 @@ grouped R [] gs a rest = rest a
 grouped R (f ∷ fs) gs a rest = λ v. grouped R fs gs (a v) rest
 
 abbrev pub reading : {R : Type 0} (fs : List Field) → List ℕ → FromFields fs R → R
-reading fs s g = at_once fs g (readFields fs s)
+reading fs s g = at_once fs g (read_fields fs s)
 
 abbrev pub laid : (fs : List Field) → FromFields fs (List ℕ)
-laid fs = oneByOne fs (spellFields fs)
+laid fs = one_by_one fs (spell_fields fs)
 
 -- ---- the first bad place
 
 -- where the first byte stands, from `at` on, that no token holds
-unfoldable pub badTokenByte : ℕ → List ℕ → Option ℕ
-badTokenByte at [] = none
-badTokenByte at (b ∷ bs) = pick (tokenByte b) (badTokenByte (1 + at) bs) (some at)
+unfoldable pub bad_token_byte : ℕ → List ℕ → Option ℕ
+bad_token_byte at [] = none
+bad_token_byte at (b ∷ bs) = pick (token_byte b) (bad_token_byte (1 + at) bs) (some at)
 
 abbrev pub unless : Bool → ℕ → Option ℕ
 unless ok at = pick ok none (some at)
 
 -- of a field at `at` with the bytes xs
-unfoldable pub badPlace : Rule → ℕ → List ℕ → Option ℕ
-badPlace free at xs = none
-badPlace (below n) at xs = unless (ltb (number_of xs) n) at
-badPlace (between low high) at xs = unless (leb low (number_of xs) && leb (number_of xs) high) at
-badPlace (one_of letters) at xs = unless (among letters (number_of xs)) at
-badPlace legalToken at xs = badTokenByte at xs
-badPlace blank at xs = unless (allAre space xs) at
+unfoldable pub bad_place : Rule → ℕ → List ℕ → Option ℕ
+bad_place free at xs = none
+bad_place (below n) at xs = unless (ltb (number_of xs) n) at
+bad_place (between low high) at xs = unless (leb low (number_of xs) && leb (number_of xs) high) at
+bad_place (one_of letters) at xs = unless (among letters (number_of xs)) at
+bad_place legal_token at xs = bad_token_byte at xs
+bad_place blank at xs = unless (all_are space xs) at
 
 abbrev pub or_else : Option ℕ → Option ℕ → Option ℕ
 or_else none b = b
 or_else (some at) b = some at
 
 -- of the fields, in their order
-unfoldable pub firstBadPlace : List Field → List ℕ → Option ℕ
-firstBadPlace [] s = none
-firstBadPlace (f ∷ fs) s = or_else (badPlace f.rule f.at (part s f.at f.width)) (firstBadPlace fs s)
+unfoldable pub first_bad_place : List Field → List ℕ → Option ℕ
+first_bad_place [] s = none
+first_bad_place (f ∷ fs) s = or_else (bad_place f.rule f.at (part s f.at f.width)) (first_bad_place fs s)
 
 abbrev pub is_none : Option ℕ → Bool
 is_none none = true
@@ -202,11 +202,11 @@ abbrev pub place : Option ℕ → ℕ
 place none = 0
 place (some at) = at
 
-abbrev pub earlierOf : ℕ → ℕ → ℕ
-earlierOf a b = pick (eqb a 0) b a
+abbrev pub earlier_of : ℕ → ℕ → ℕ
+earlier_of a b = pick (eqb a 0) b a
 
-unfoldable pub noBadPlace : List Field → List ℕ → Bool
-noBadPlace fs s = is_none (firstBadPlace fs s)
+unfoldable pub no_bad_place : List Field → List ℕ → Bool
+no_bad_place fs s = is_none (first_bad_place fs s)
 
 -- ---- layouts: a first byte that says what it is, a length, and the fields behind
 
@@ -216,24 +216,24 @@ pub record Layout : Type 0 where
   pub fields : List Field
 
 -- the first of the layouts with this first byte
-unfoldable pub layoutFor : List Layout → ℕ → Option Layout
-layoutFor [] code = none
-layoutFor (l ∷ ls) code = pick (eqb l.code code) (some l) (layoutFor ls code)
+unfoldable pub layout_for : List Layout → ℕ → Option Layout
+layout_for [] code = none
+layout_for (l ∷ ls) code = pick (eqb l.code code) (some l) (layout_for ls code)
 
 -- the bytes of a layout with these values
 unfoldable pub spell : (l : Layout) → Values l.fields → List ℕ
-spell l v = l.code ∷ spellFields l.fields v
+spell l v = l.code ∷ spell_fields l.fields v
 
 abbrev pub the : (l : Layout) → FromFields l.fields (List ℕ)
-the l = oneByOne l.fields (spell l)
+the l = one_by_one l.fields (spell l)
 
 -- the fields stand one behind the other from `at` on and end at `size`
 unfoldable pub unbroken : ℕ → ℕ → List Field → Bool
 unbroken at size [] = eqb at size
 unbroken at size (f ∷ fs) = eqb f.at at && unbroken (at + f.width) size fs
 
-unfoldable pub wellLaid : Layout → Bool
-wellLaid l = unbroken 1 l.size l.fields
+unfoldable pub well_laid : Layout → Bool
+well_laid l = unbroken 1 l.size l.fields
 
 -- a field that stands k bytes further on
 abbrev pub shifted : ℕ → Field → Field

@@ -4,10 +4,10 @@ use Prim.Native.Char.{Char, code}
 use Prim.Native.String as Text
 use mathlib.Core.List.{List, Memᴰ}
 use Rattle.octets.specs.Bytes.{part, number_of}
-use Rattle.answers.specs.Answer.{answerNumber, answerPlace}
+use Rattle.answers.specs.Answer.{answer_number, answer_place}
 use Rattle.answers.specs.declared.Answer.{Answer}
 use Rattle.wire.specs.Letters.{space}
-use Rattle.wire.specs.Layout.{Rule, free, below, between, one_of, legalToken, blank, Field, Layout}
+use Rattle.wire.specs.Layout.{Rule, free, below, between, one_of, legal_token, blank, Field, Layout}
 
 -- every byte is one
 abbrev pub Bytes : List ℕ → Type 0
@@ -31,7 +31,7 @@ Obeys free xs = Unit {0}
 Obeys (below n) xs = number_of xs < n
 Obeys (between low high) xs = (low ≤ number_of xs) × (number_of xs ≤ high)
 Obeys (one_of letters) xs = OneOf letters (number_of xs)
-Obeys legalToken xs = (i : ℕ) → i < length xs → LetterDigitOrSpace (get_or xs i 0)
+Obeys legal_token xs = (i : ℕ) → i < length xs → LetterDigitOrSpace (get_or xs i 0)
 Obeys blank xs = (i : ℕ) → i < length xs → get_or xs i 0 ≡ space
 
 infix 50 ◌∈◌
@@ -54,7 +54,7 @@ BadByte free at xs q = ⊥
 BadByte (below n) at xs q = (q ≡ at) × (Obeys (below n) xs → ⊥)
 BadByte (between low high) at xs q = (q ≡ at) × (Obeys (between low high) xs → ⊥)
 BadByte (one_of letters) at xs q = (q ≡ at) × (Obeys (one_of letters) xs → ⊥)
-BadByte legalToken at xs q = (i : ℕ) × ((q ≡ at + i) × ((i < length xs) × (LetterDigitOrSpace (get_or xs i 0) → ⊥)))
+BadByte legal_token at xs q = (i : ℕ) × ((q ≡ at + i) × ((i < length xs) × (LetterDigitOrSpace (get_or xs i 0) → ⊥)))
 BadByte blank at xs q = (q ≡ at) × (Obeys blank xs → ⊥)
 
 abbrev pub BadIn : Field → List ℕ → ℕ → Type 0
@@ -68,10 +68,10 @@ pub record FirstBad (fs : List Field) (s : List ℕ) (p : ℕ) : Type 0 where
   pub first : (f : Field) → f ∈ fs → (q : ℕ) → BadIn f s q → p ≤ q
 
 -- A is so exactly when B is
-infix 3 ◌exactlyWhen◌
-abbrev pub ◌exactlyWhen◌ : Type 0 → Type 0 → Type 0
-A exactlyWhen B = (A → B) × (B → A)
+infix 3 ◌exactly_when◌
+abbrev pub ◌exactly_when◌ : Type 0 → Type 0 → Type 0
+A exactly_when B = (A → B) × (B → A)
 
 -- Ask 1: the place is 0 exactly when the answer isn't 3
 abbrev pub PlaceWith3 : Answer → Type 0
-PlaceWith3 answer = answerPlace answer ≡ 0 exactlyWhen (answerNumber answer ≡ 3 → ⊥)
+PlaceWith3 answer = answer_place answer ≡ 0 exactly_when (answer_number answer ≡ 3 → ⊥)

@@ -2,24 +2,24 @@
 use Rattle.std.specs.Prelude.{ℕ}
 
 -- A stamp is below 86,400,000,000,000: the nanoseconds of a day
-abbrev pub stampEnd : ℕ
-stampEnd = 86_400_000_000_000
+abbrev pub stamp_end : ℕ
+stamp_end = 86_400_000_000_000
 
 -- Token fields are fourteen bytes
-abbrev pub tokenSize : ℕ
-tokenSize = 14
+abbrev pub token_size : ℕ
+token_size = 14
 
 -- none of the sixteen messages is longer than Replaced
-abbrev pub longestMessage : ℕ
-longestMessage = 80
+abbrev pub longest_message : ℕ
+longest_message = 80
 
 -- price 1 to 1,999,999,900 ..
-abbrev pub lowestPrice : ℕ
-lowestPrice = 1
+abbrev pub lowest_price : ℕ
+lowest_price = 1
 
-abbrev pub highestPrice : ℕ
-highestPrice = 1_999_999_900
+abbrev pub highest_price : ℕ
+highest_price = 1_999_999_900
 
 -- .. or 2,147,483,647 with cross O or C
-abbrev pub marketPrice : ℕ
-marketPrice = 2_147_483_647
+abbrev pub market_price : ℕ
+market_price = 2_147_483_647

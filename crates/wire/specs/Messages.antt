@@ -3,113 +3,113 @@
 use Prim.Native.Char.{code}
 use Rattle.std.specs.Prelude.{Bool, not, ◌&&◌, List, [], ◌∷◌, ◌++◌, map, ℕ, ◌-◌, length, get_or, drop, ltb, eqb}
 use Rattle.std.proofs.Math.Option.{Option, none, some}
-use Rattle.octets.specs.Choice.{pick, firstOf◌, ◌⇒◌⨾◌}
-use Rattle.answers.specs.Answer.{ifDone}
+use Rattle.octets.specs.Choice.{pick, first_of◌, ◌⇒◌⨾◌}
+use Rattle.answers.specs.Answer.{if_done}
 use Rattle.answers.specs.declared.Answer.{Answer}
 use Rattle.answers.specs.declared.Answer.TheVariants.{Done, Malformed, BadField, NoRoom}
 use Rattle.octets.specs.Bytes.{zeros}
-use Rattle.wire.specs.Limits.{longestMessage}
-use Rattle.wire.specs.Layout.{Layout, Field, stampAt, tokenAt, sideAt, sweepAt, letterAt, whole_at, textAt, firstBadPlace, layoutFor, shifted}
+use Rattle.wire.specs.Limits.{longest_message}
+use Rattle.wire.specs.Layout.{Layout, Field, stamp_at, token_at, side_at, sweep_at, letter_at, whole_at, text_at, first_bad_place, layout_for, shifted}
 
 -- ---- inbound
 
-abbrev pub enterOrder : Layout
-enterOrder = record {
+abbrev pub enter_order : Layout
+enter_order = record {
   code = code "O";
   size = 48;
   fields =
-      tokenAt 1  -- Order Token
-      ∷ sideAt 15  -- Buy/Sell Indicator
+      token_at 1  -- Order Token
+      ∷ side_at 15  -- Buy/Sell Indicator
       ∷ whole_at 16 4  -- Shares
-      ∷ textAt 20 8  -- Stock
+      ∷ text_at 20 8  -- Stock
       ∷ whole_at 28 4  -- Price
       ∷ whole_at 32 4  -- Time in Force
-      ∷ textAt 36 4  -- Firm
-      ∷ letterAt 40  -- Display
-      ∷ letterAt 41  -- Capacity
-      ∷ sweepAt 42  -- Intermarket Sweep Eligibility
+      ∷ text_at 36 4  -- Firm
+      ∷ letter_at 40  -- Display
+      ∷ letter_at 41  -- Capacity
+      ∷ sweep_at 42  -- Intermarket Sweep Eligibility
       ∷ whole_at 43 4  -- Minimum Quantity
-      ∷ letterAt 47  -- Cross Type
+      ∷ letter_at 47  -- Cross Type
       ∷ [];
 }
 
-abbrev pub replaceOrder : Layout
-replaceOrder = record {
+abbrev pub replace_order : Layout
+replace_order = record {
   code = code "U";
   size = 47;
   fields =
-      tokenAt 1  -- Existing Order Token
-      ∷ tokenAt 15  -- Replacement Order Token
+      token_at 1  -- Existing Order Token
+      ∷ token_at 15  -- Replacement Order Token
       ∷ whole_at 29 4  -- Shares
       ∷ whole_at 33 4  -- Price
       ∷ whole_at 37 4  -- Time in Force
-      ∷ letterAt 41  -- Display
-      ∷ sweepAt 42  -- Intermarket Sweep Eligibility
+      ∷ letter_at 41  -- Display
+      ∷ sweep_at 42  -- Intermarket Sweep Eligibility
       ∷ whole_at 43 4  -- Minimum Quantity
       ∷ [];
 }
 
-abbrev pub cancelOrder : Layout
-cancelOrder = record {
+abbrev pub cancel_order : Layout
+cancel_order = record {
   code = code "X";
   size = 19;
   fields =
-      tokenAt 1  -- Order Token
+      token_at 1  -- Order Token
       ∷ whole_at 15 4  -- Shares
       ∷ [];
 }
 
-abbrev pub modifyOrder : Layout
-modifyOrder = record {
+abbrev pub modify_order : Layout
+modify_order = record {
   code = code "M";
   size = 20;
   fields =
-      tokenAt 1  -- Order Token
-      ∷ sideAt 15  -- Buy/Sell Indicator
+      token_at 1  -- Order Token
+      ∷ side_at 15  -- Buy/Sell Indicator
       ∷ whole_at 16 4  -- Shares
       ∷ [];
 }
 
 -- ---- outbound
 
-abbrev pub systemEvent : Layout
-systemEvent = record {
+abbrev pub system_event : Layout
+system_event = record {
   code = code "S";
   size = 10;
   fields =
-      stampAt 1  -- Timestamp
-      ∷ letterAt 9  -- Event Code
+      stamp_at 1  -- Timestamp
+      ∷ letter_at 9  -- Event Code
       ∷ [];
 }
 
 -- what Accepted and Replaced both state of an order
 abbrev pub stated : List Field
 stated =
-    letterAt 23  -- Buy/Sell Indicator
+    letter_at 23  -- Buy/Sell Indicator
     ∷ whole_at 24 4  -- Shares
-    ∷ textAt 28 8  -- Stock
+    ∷ text_at 28 8  -- Stock
     ∷ whole_at 36 4  -- Price
     ∷ whole_at 40 4  -- Time in Force
-    ∷ textAt 44 4  -- Firm
-    ∷ letterAt 48  -- Display
+    ∷ text_at 44 4  -- Firm
+    ∷ letter_at 48  -- Display
     ∷ whole_at 49 8  -- Order Reference Number
-    ∷ letterAt 57  -- Capacity
-    ∷ letterAt 58  -- Intermarket Sweep Eligibility
+    ∷ letter_at 57  -- Capacity
+    ∷ letter_at 58  -- Intermarket Sweep Eligibility
     ∷ whole_at 59 4  -- Minimum Quantity
-    ∷ letterAt 63  -- Cross Type
-    ∷ letterAt 64  -- Order State
+    ∷ letter_at 63  -- Cross Type
+    ∷ letter_at 64  -- Order State
     ∷ []
 
 -- and what each has behind that
-abbrev pub acceptedRest : List Field
-acceptedRest =
-    letterAt 65  -- BBO Weight Indicator
+abbrev pub accepted_rest : List Field
+accepted_rest =
+    letter_at 65  -- BBO Weight Indicator
     ∷ []
 
-abbrev pub replacedRest : List Field
-replacedRest =
-    tokenAt 65  -- Previous Order Token
-    ∷ letterAt 79  -- BBO Weight Indicator
+abbrev pub replaced_rest : List Field
+replaced_rest =
+    token_at 65  -- Previous Order Token
+    ∷ letter_at 79  -- BBO Weight Indicator
     ∷ []
 
 abbrev pub accepted : Layout
@@ -117,9 +117,9 @@ accepted = record {
   code = code "A";
   size = 66;
   fields =
-      stampAt 1  -- Timestamp
-      ∷ tokenAt 9  -- Order Token
-      ∷ (stated ++ acceptedRest);
+      stamp_at 1  -- Timestamp
+      ∷ token_at 9  -- Order Token
+      ∷ (stated ++ accepted_rest);
 }
 
 abbrev pub replaced : Layout
@@ -127,9 +127,9 @@ replaced = record {
   code = code "U";
   size = 80;
   fields =
-      stampAt 1  -- Timestamp
-      ∷ tokenAt 9  -- Replacement Order Token
-      ∷ (stated ++ replacedRest);
+      stamp_at 1  -- Timestamp
+      ∷ token_at 9  -- Replacement Order Token
+      ∷ (stated ++ replaced_rest);
 }
 
 abbrev pub canceled : Layout
@@ -137,25 +137,25 @@ canceled = record {
   code = code "C";
   size = 28;
   fields =
-      stampAt 1  -- Timestamp
-      ∷ tokenAt 9  -- Order Token
+      stamp_at 1  -- Timestamp
+      ∷ token_at 9  -- Order Token
       ∷ whole_at 23 4  -- Decrement Shares
-      ∷ letterAt 27  -- Reason
+      ∷ letter_at 27  -- Reason
       ∷ [];
 }
 
-abbrev pub aiqCancelled : Layout
-aiqCancelled = record {
+abbrev pub aiq_cancelled : Layout
+aiq_cancelled = record {
   code = code "D";
   size = 37;
   fields =
-      stampAt 1  -- Timestamp
-      ∷ tokenAt 9  -- Order Token
+      stamp_at 1  -- Timestamp
+      ∷ token_at 9  -- Order Token
       ∷ whole_at 23 4  -- Decrement Shares
-      ∷ letterAt 27  -- Reason
+      ∷ letter_at 27  -- Reason
       ∷ whole_at 28 4  -- Quantity Prevented from Trading
       ∷ whole_at 32 4  -- Execution Price
-      ∷ letterAt 36  -- Liquidity Flag
+      ∷ letter_at 36  -- Liquidity Flag
       ∷ [];
 }
 
@@ -164,24 +164,24 @@ executed = record {
   code = code "E";
   size = 40;
   fields =
-      stampAt 1  -- Timestamp
-      ∷ tokenAt 9  -- Order Token
+      stamp_at 1  -- Timestamp
+      ∷ token_at 9  -- Order Token
       ∷ whole_at 23 4  -- Executed Shares
       ∷ whole_at 27 4  -- Execution Price
-      ∷ letterAt 31  -- Liquidity Flag
+      ∷ letter_at 31  -- Liquidity Flag
       ∷ whole_at 32 8  -- Match Number
       ∷ [];
 }
 
-abbrev pub brokenTrade : Layout
-brokenTrade = record {
+abbrev pub broken_trade : Layout
+broken_trade = record {
   code = code "B";
   size = 32;
   fields =
-      stampAt 1  -- Timestamp
-      ∷ tokenAt 9  -- Order Token
+      stamp_at 1  -- Timestamp
+      ∷ token_at 9  -- Order Token
       ∷ whole_at 23 8  -- Match Number
-      ∷ letterAt 31  -- Reason
+      ∷ letter_at 31  -- Reason
       ∷ [];
 }
 
@@ -190,41 +190,41 @@ rejected = record {
   code = code "J";
   size = 24;
   fields =
-      stampAt 1  -- Timestamp
-      ∷ tokenAt 9  -- Order Token
-      ∷ letterAt 23  -- Reason
+      stamp_at 1  -- Timestamp
+      ∷ token_at 9  -- Order Token
+      ∷ letter_at 23  -- Reason
       ∷ [];
 }
 
-abbrev pub cancelPending : Layout
-cancelPending = record {
+abbrev pub cancel_pending : Layout
+cancel_pending = record {
   code = code "P";
   size = 23;
   fields =
-      stampAt 1  -- Timestamp
-      ∷ tokenAt 9  -- Order Token
+      stamp_at 1  -- Timestamp
+      ∷ token_at 9  -- Order Token
       ∷ [];
 }
 
-abbrev pub cancelReject : Layout
-cancelReject = record {
+abbrev pub cancel_reject : Layout
+cancel_reject = record {
   code = code "I";
   size = 23;
   fields =
-      stampAt 1  -- Timestamp
-      ∷ tokenAt 9  -- Order Token
+      stamp_at 1  -- Timestamp
+      ∷ token_at 9  -- Order Token
       ∷ [];
 }
 
-abbrev pub priorityUpdate : Layout
-priorityUpdate = record {
+abbrev pub priority_update : Layout
+priority_update = record {
   code = code "T";
   size = 36;
   fields =
-      stampAt 1  -- Timestamp
-      ∷ tokenAt 9  -- Order Token
+      stamp_at 1  -- Timestamp
+      ∷ token_at 9  -- Order Token
       ∷ whole_at 23 4  -- Price
-      ∷ letterAt 27  -- Display
+      ∷ letter_at 27  -- Display
       ∷ whole_at 28 8  -- Order Reference Number
       ∷ [];
 }
@@ -234,9 +234,9 @@ modified = record {
   code = code "M";
   size = 28;
   fields =
-      stampAt 1  -- Timestamp
-      ∷ tokenAt 9  -- Order Token
-      ∷ letterAt 23  -- Buy/Sell Indicator
+      stamp_at 1  -- Timestamp
+      ∷ token_at 9  -- Order Token
+      ∷ letter_at 23  -- Buy/Sell Indicator
       ∷ whole_at 24 4  -- Shares
       ∷ [];
 }
@@ -245,79 +245,79 @@ modified = record {
 
 -- U and M are read as inbound or outbound, as the caller says
 abbrev pub inbound : List Layout
-inbound = enterOrder ∷ replaceOrder ∷ cancelOrder ∷ modifyOrder ∷ []
+inbound = enter_order ∷ replace_order ∷ cancel_order ∷ modify_order ∷ []
 
 abbrev pub outbound : List Layout
 outbound =
-    systemEvent ∷ accepted ∷ replaced ∷ canceled ∷ aiqCancelled ∷ executed ∷ brokenTrade ∷ rejected ∷ cancelPending ∷ cancelReject
-    ∷ priorityUpdate ∷ modified ∷ []
+    system_event ∷ accepted ∷ replaced ∷ canceled ∷ aiq_cancelled ∷ executed ∷ broken_trade ∷ rejected ∷ cancel_pending ∷ cancel_reject
+    ∷ priority_update ∷ modified ∷ []
 
 abbrev pub messages : List Layout
 messages = inbound ++ outbound
 
-abbrev pub noMessage : Layout
-noMessage = record { code = 0; size = 0; fields = [] }
+abbrev pub no_message : Layout
+no_message = record { code = 0; size = 0; fields = [] }
 
 -- message k, the inbound ones first
-abbrev pub messageLayout : ℕ → Layout
-messageLayout k = get_or messages k noMessage
+abbrev pub message_layout : ℕ → Layout
+message_layout k = get_or messages k no_message
 
 -- its fields where it stands so many bytes further on
-abbrev pub fieldsFrom : ℕ → ℕ → List Field
-fieldsFrom from k = map (shifted from) (messageLayout k).fields
+abbrev pub fields_from : ℕ → ℕ → List Field
+fields_from from k = map (shifted from) (message_layout k).fields
 
-abbrev pub sizeOr0 : Option Layout → ℕ
-sizeOr0 none = 0
-sizeOr0 (some l) = l.size
+abbrev pub size_or0 : Option Layout → ℕ
+size_or0 none = 0
+size_or0 (some l) = l.size
 
 -- the length of the message among these with this type, 0 where there is none
-unfoldable pub lengthFor : List Layout → ℕ → ℕ
-lengthFor ls letter = sizeOr0 (layoutFor ls letter)
+unfoldable pub length_for : List Layout → ℕ → ℕ
+length_for ls letter = size_or0 (layout_for ls letter)
 
-abbrev pub messageLength : Bool → ℕ → ℕ
-messageLength isInbound letter = lengthFor (pick isInbound inbound outbound) letter
+abbrev pub message_length : Bool → ℕ → ℕ
+message_length is_inbound letter = length_for (pick is_inbound inbound outbound) letter
 
 -- ---- readers and writers
 
 -- Ask 1: where there is a first bad place the answer is 3 and tells it; where there is none, what is asked next is answered
-infixr 10 badAt◌⨾◌
-abbrev pub badAt◌⨾◌ : Option ℕ → Answer → Answer
-badAt none ⨾ next = next
-badAt (some at) ⨾ next = BadField at
+infixr 10 bad_at◌⨾◌
+abbrev pub bad_at◌⨾◌ : Option ℕ → Answer → Answer
+bad_at none ⨾ next = next
+bad_at (some at) ⨾ next = BadField at
 
 -- the same of a place as code hands it about
-abbrev pub placeAnswer : ℕ → Answer → Answer
-placeAnswer at next = pick (eqb at 0) next (BadField at)
+abbrev pub place_answer : ℕ → Answer → Answer
+place_answer at next = pick (eqb at 0) next (BadField at)
 
 -- length and type are right
 abbrev pub framed : ℕ → ℕ → List ℕ → Bool
 framed size letter s = eqb (length s) size && eqb (get_or s 0 0) letter
 
 -- a reader checks length and type (2), then the judged fields (3)
-unfoldable pub readAnswer : Layout → List ℕ → Answer
-readAnswer l s =
+unfoldable pub read_answer : Layout → List ℕ → Answer
+read_answer l s =
     first_of
     not (eqb (length s) l.size) ⇒ Malformed
     ⨾ not (eqb (get_or s 0 0) l.code) ⇒ Malformed
-    ⨾ badAt firstBadPlace l.fields s
+    ⨾ bad_at first_bad_place l.fields s
     ⨾ Done
 
 -- the bytes that a reader takes its fields from: a refused reader's fields are all zero
-unfoldable pub legalOrZeros : Layout → List ℕ → List ℕ
-legalOrZeros l s = ifDone (readAnswer l s) s (zeros l.size)
+unfoldable pub legal_or_zeros : Layout → List ℕ → List ℕ
+legal_or_zeros l s = if_done (read_answer l s) s (zeros l.size)
 
 -- a message at the front of as many bytes as the longest has, with zeros behind it
-unfoldable pub inEighty : List ℕ → List ℕ
-inEighty m = m ++ zeros (longestMessage - length m)
+unfoldable pub in_eighty : List ℕ → List ℕ
+in_eighty m = m ++ zeros (longest_message - length m)
 
 -- a writer makes the same checks of what it is to write (3), then room (13)
-unfoldable pub writeAnswer : Layout → List ℕ → List ℕ → Answer
-writeAnswer l bytes buffer =
+unfoldable pub write_answer : Layout → List ℕ → List ℕ → Answer
+write_answer l bytes buffer =
     first_of
-    badAt firstBadPlace l.fields bytes
+    bad_at first_bad_place l.fields bytes
     ⨾ ltb (length buffer) l.size ⇒ NoRoom
     ⨾ Done
 
 -- the buffer after it: bytes after the message stay, and a refused writer changes none
-unfoldable pub bufferAfter : Layout → List ℕ → List ℕ → List ℕ
-bufferAfter l bytes buffer = ifDone (writeAnswer l bytes buffer) (bytes ++ drop l.size buffer) buffer
+unfoldable pub buffer_after : Layout → List ℕ → List ℕ → List ℕ
+buffer_after l bytes buffer = if_done (write_answer l bytes buffer) (bytes ++ drop l.size buffer) buffer

@@ -13,9 +13,9 @@ removed n = record { 0 = n }
 
 -- ---- total and total
 
-infix 50 ◌isBelow◌
-abbrev pub ◌isBelow◌ : Total → Total → Bool
-a isBelow b = ltb a.0 b.0
+infix 50 ◌is_below◌
+abbrev pub ◌is_below◌ : Total → Total → Bool
+a is_below b = ltb a.0 b.0
 
 infix 50 ◌equals◌
 abbrev pub ◌equals◌ : Total → Total → Bool
@@ -31,13 +31,13 @@ a less b = removed (a.0 - b.0)
 
 -- ---- total and removed
 
-infixl 60 ◌grownBy◌
-abbrev pub ◌grownBy◌ : Total → Removed → Total
-a grownBy d = total (a.0 + d.0)
+infixl 60 ◌grown_by◌
+abbrev pub ◌grown_by◌ : Total → Removed → Total
+a grown_by d = total (a.0 + d.0)
 
-infixl 60 ◌cutBy◌
-abbrev pub ◌cutBy◌ : Total → Removed → Total
-a cutBy d = total (a.0 - d.0)
+infixl 60 ◌cut_by◌
+abbrev pub ◌cut_by◌ : Total → Removed → Total
+a cut_by d = total (a.0 - d.0)
 
 -- ---- removed and removed
 

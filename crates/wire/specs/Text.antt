@@ -2,7 +2,7 @@
 use Rattle.std.specs.Prelude.{ℕ, Bool, true, false, ◌&&◌, ◌||◌, List, [], ◌∷◌, leb, eqb}
 use Prim.Native.Char.{code}
 use Rattle.octets.specs.Choice.{pick}
-use Rattle.octets.specs.Bytes.{allAre}
+use Rattle.octets.specs.Bytes.{all_are}
 use Rattle.wire.specs.Letters.{space}
 
 unfoldable pub capital : ℕ → Bool
@@ -15,15 +15,15 @@ unfoldable pub digit : ℕ → Bool
 digit b = leb (code "0") b && leb b (code "9")
 
 -- A token holds letters, digits and spaces only
-unfoldable pub tokenByte : ℕ → Bool
-tokenByte b = capital b || small b || digit b || eqb b space
+unfoldable pub token_byte : ℕ → Bool
+token_byte b = capital b || small b || digit b || eqb b space
 
 -- capitals, then spaces; perhaps none of the one or of the other
-unfoldable pub capitalsThenSpaces : List ℕ → Bool
-capitalsThenSpaces [] = true
-capitalsThenSpaces (b ∷ bs) = pick (capital b) (capitalsThenSpaces bs) (allAre space (b ∷ bs))
+unfoldable pub capitals_then_spaces : List ℕ → Bool
+capitals_then_spaces [] = true
+capitals_then_spaces (b ∷ bs) = pick (capital b) (capitals_then_spaces bs) (all_are space (b ∷ bs))
 
 -- one capital at least, then spaces: a stock, a firm
 unfoldable pub shaped : List ℕ → Bool
 shaped [] = false
-shaped (b ∷ bs) = capital b && capitalsThenSpaces bs
+shaped (b ∷ bs) = capital b && capitals_then_spaces bs

@@ -1,8 +1,8 @@
 // What every reader and every writer ends with, once for all messages.
 ghost use Rattle.std.specs.Prelude.{◌≡◌, length, take};
 ghost use Rattle.octets.specs.Bytes.{zeros};
-ghost use Rattle.answers.specs.Answer.{ifDone};
-ghost use Rattle.wire.specs.Messages.{messageLayout, readAnswer, legalOrZeros, writeAnswer, bufferAfter};
+ghost use Rattle.answers.specs.Answer.{if_done};
+ghost use Rattle.wire.specs.Messages.{message_layout, read_answer, legal_or_zeros, write_answer, buffer_after};
 
 use crate::judge::first_bad;
 use crate::messages::size;
@@ -11,7 +11,7 @@ use answers::{Answer, first_of, is_done};
 
 // The first of two parts where a call was done, else the second. Its address says that it is the caller's own memory.
 pub fn taken<'a>(answer: Answer, s: &'a [u8], blank: &'a [u8]) -> &'a [u8]
-    ensures { (result.now ≡ ifDone answer s.now blank.now) × (result.ref_ptr ≡ ifDone answer s.entry.ref_ptr blank.entry.ref_ptr) }
+    ensures { (result.now ≡ if_done answer s.now blank.now) × (result.ref_ptr ≡ if_done answer s.entry.ref_ptr blank.entry.ref_ptr) }
 {
     if is_done(answer) {
         return s;
@@ -22,16 +22,16 @@ pub fn taken<'a>(answer: Answer, s: &'a [u8], blank: &'a [u8]) -> &'a [u8]
 // The bytes that a reader of message k takes its fields from: those that came in, or zeros where the judge refused them. Either are as many
 // as the message has.
 pub fn legal_or_zeros<'a>(answer: Answer, s: &'a [u8], blank: &'a [u8], k: usize) -> &'a [u8]
-    requires { (answer ≡ readAnswer (messageLayout k) s.now) × (blank.now ≡ zeros (messageLayout k).size) }
-    ensures result_value { result.now ≡ legalOrZeros (messageLayout k) s.now }
-    ensures ref_ptr_value { (result.ref_ptr ≡ ifDone answer s.entry.ref_ptr blank.entry.ref_ptr) × (length result.now ≡ (messageLayout k).size) }
+    requires { (answer ≡ read_answer (message_layout k) s.now) × (blank.now ≡ zeros (message_layout k).size) }
+    ensures result_value { result.now ≡ legal_or_zeros (message_layout k) s.now }
+    ensures ref_ptr_value { (result.ref_ptr ≡ if_done answer s.entry.ref_ptr blank.entry.ref_ptr) × (length result.now ≡ (message_layout k).size) }
 {
     taken(answer, s, blank)
 }
 
 // Puts message k, with which the spelled bytes begin, into the buffer, where it is legal and there is room.
 pub fn send(buffer: &mut [u8], spelled: [u8; 80], k: usize) -> Answer
-    ensures { (result ≡ writeAnswer (messageLayout k) (take (messageLayout k).size spelled) buffer.old) × (buffer.new ≡ bufferAfter (messageLayout k) (take (messageLayout k).size spelled) buffer.old) }
+    ensures { (result ≡ write_answer (message_layout k) (take (message_layout k).size spelled) buffer.old) × (buffer.new ≡ buffer_after (message_layout k) (take (message_layout k).size spelled) buffer.old) }
 {
     let n = size(k);
     let bytes = &spelled[0..n];

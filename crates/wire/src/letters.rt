@@ -2,7 +2,7 @@
 // them branches.
 ghost use Rattle.std.specs.Prelude.{◌≡◌};
 ghost use Rattle.octets.specs.Choice.{among};
-ghost use Rattle.wire.specs.Letters.{sides, sellSides, sweeps, displays, capacities, crosses, openingOrClosing, liquidityFlags, bookReasons, systemEvents, stockStates};
+ghost use Rattle.wire.specs.Letters.{sides, sell_sides, sweeps, displays, capacities, crosses, opening_or_closing, liquidity_flags, book_reasons, system_events, stock_states};
 
 pub(crate) fn is_side(b: u8) -> bool
     ensures { result ≡ among sides b }
@@ -11,7 +11,7 @@ pub(crate) fn is_side(b: u8) -> bool
 }
 
 pub fn is_sell_side(b: u8) -> bool
-    ensures { result ≡ among sellSides b }
+    ensures { result ≡ among sell_sides b }
 {
     (b == b'S') | (b == b'T') | (b == b'E')
 }
@@ -41,13 +41,13 @@ pub fn is_cross(b: u8) -> bool
 }
 
 pub(crate) fn is_opening_or_closing(b: u8) -> bool
-    ensures { result ≡ among openingOrClosing b }
+    ensures { result ≡ among opening_or_closing b }
 {
     (b == b'O') | (b == b'C')
 }
 
 pub(crate) fn is_liquidity_flag(b: u8) -> bool
-    ensures { result ≡ among liquidityFlags b }
+    ensures { result ≡ among liquidity_flags b }
 {
     (b == b'A')
         | (b == b'R')
@@ -64,19 +64,19 @@ pub(crate) fn is_liquidity_flag(b: u8) -> bool
 }
 
 pub(crate) fn is_book_reason(b: u8) -> bool
-    ensures { result ≡ among bookReasons b }
+    ensures { result ≡ among book_reasons b }
 {
     (b == b'I') | (b == b'T') | (b == b'S') | (b == b'D') | (b == b'Z') | (b == b'E')
 }
 
 pub(crate) fn is_system_event(b: u8) -> bool
-    ensures { result ≡ among systemEvents b }
+    ensures { result ≡ among system_events b }
 {
     (b == b'S') | (b == b'E')
 }
 
 pub fn is_stock_state(b: u8) -> bool
-    ensures { result ≡ among stockStates b }
+    ensures { result ≡ among stock_states b }
 {
     (b == b'T') | (b == b'H')
 }

@@ -1,6 +1,6 @@
 // The sixteen messages by number, inbound first: their lengths and types as constant tables.
 ghost use Rattle.std.specs.Prelude.{◌≡◌, ◌<◌, ◌≤◌, get_or, take, drop};
-ghost use Rattle.wire.specs.Messages.{messageLayout, messages, lengthFor, messageLength};
+ghost use Rattle.wire.specs.Messages.{message_layout, messages, length_for, message_length};
 
 pub const ENTER_ORDER: usize = 0;
 
@@ -48,14 +48,14 @@ const TYPES: [u8; 16] = [
 
 // The length that message k's layout says. No message has a number from 16 on.
 pub fn size(k: usize) -> usize
-    ensures { result ≡ (messageLayout k).size }
+    ensures { result ≡ (message_layout k).size }
 {
     if k < MESSAGES { LENGTHS[k] as usize } else { 0 }
 }
 
 // The type that its layout says.
 pub(crate) fn letter_of(k: usize) -> u8
-    ensures { result ≡ (messageLayout k).code }
+    ensures { result ≡ (message_layout k).code }
 {
     if k < MESSAGES { TYPES[k] } else { 0 }
 }
@@ -72,7 +72,7 @@ pub fn first_byte(s: &[u8]) -> u8
 
 // The length of the message with this type, 0 where there is none. U and M are inbound or outbound, as the caller says.
 pub fn message_length(inbound: bool, letter: u8) -> usize
-    ensures { result ≡ messageLength inbound letter }
+    ensures { result ≡ message_length inbound letter }
 {
     if inbound {
         return length_among(0, SYSTEM_EVENT, letter);
@@ -83,7 +83,7 @@ pub fn message_length(inbound: bool, letter: u8) -> usize
 // The same among the messages from number `from` on and before number `to`.
 fn length_among(from: usize, to: usize, letter: u8) -> usize
     requires { to ≤ 16 }
-    ensures { result ≡ lengthFor (drop from (take to messages)) letter }
+    ensures { result ≡ length_for (drop from (take to messages)) letter }
 {
     let mut k = from;
     while k < to {

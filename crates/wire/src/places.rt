@@ -2,10 +2,10 @@
 // offsets. That nothing is bad is that there is no first bad place.
 ghost use Rattle.std.specs.Prelude.{◌≡◌, ◌+◌, ◌<◌, ◌≤◌, length};
 ghost use Rattle.octets.specs.Bytes.{part};
-ghost use Rattle.wire.specs.Letters.{sides, sweeps, liquidityFlags, bookReasons, systemEvents, stockStates};
-ghost use Rattle.wire.specs.Limits.{stampEnd, lowestPrice, highestPrice};
-ghost use Rattle.wire.specs.Messages.{placeAnswer};
-ghost use Rattle.wire.specs.Layout.{place, earlierOf, unless, badPlace, below, between, one_of, legalToken, blank};
+ghost use Rattle.wire.specs.Letters.{sides, sweeps, liquidity_flags, book_reasons, system_events, stock_states};
+ghost use Rattle.wire.specs.Limits.{stamp_end, lowest_price, highest_price};
+ghost use Rattle.wire.specs.Messages.{place_answer};
+ghost use Rattle.wire.specs.Layout.{place, earlier_of, unless, bad_place, below, between, one_of, legal_token, blank};
 
 use crate::letters::{
     is_book_reason, is_liquidity_flag, is_side, is_stock_state, is_sweep, is_system_event,
@@ -22,7 +22,7 @@ pub const STAMP_END: u64 = 86_400_000_000_000;
 
 // Of two places the first, where the fields that they are of stand in this order.
 pub fn earlier(a: usize, b: usize) -> usize
-    ensures { result ≡ earlierOf a b }
+    ensures { result ≡ earlier_of a b }
 {
     if a == NOWHERE {
         return b;
@@ -32,7 +32,7 @@ pub fn earlier(a: usize, b: usize) -> usize
 
 // What a first bad place answers, and where there is none, what is asked next.
 pub fn answer_for(bad: usize, next: Answer) -> Answer
-    ensures { result ≡ placeAnswer bad next }
+    ensures { result ≡ place_answer bad next }
 {
     if bad == NOWHERE {
         return next;
@@ -52,14 +52,14 @@ fn bad_unless(ok: bool, at: usize) -> usize
 
 pub fn bad_stamp(s: &[u8], at: usize) -> usize
     requires { at + 8 ≤ length s.now }
-    ensures { result ≡ place (badPlace (below stampEnd) at (part s.now at 8)) }
+    ensures { result ≡ place (bad_place (below stamp_end) at (part s.now at 8)) }
 {
     bad_unless(octets::be64(s, at) < STAMP_END, at)
 }
 
 pub fn bad_limit_price(s: &[u8], at: usize) -> usize
     requires { at + 4 ≤ length s.now }
-    ensures { result ≡ place (badPlace (between lowestPrice highestPrice) at (part s.now at 4)) }
+    ensures { result ≡ place (bad_place (between lowest_price highest_price) at (part s.now at 4)) }
 {
     let price = octets::be32(s, at);
     bad_unless((Price::LOWEST <= price) & (price <= Price::HIGHEST), at)
@@ -68,7 +68,7 @@ pub fn bad_limit_price(s: &[u8], at: usize) -> usize
 // A number of two bytes that is to be 0.
 pub fn bad_nonzero(s: &[u8], at: usize) -> usize
     requires { at + 2 ≤ length s.now }
-    ensures { result ≡ place (badPlace (between 0 0) at (part s.now at 2)) }
+    ensures { result ≡ place (bad_place (between 0 0) at (part s.now at 2)) }
 {
     bad_unless(octets::be16(s, at) == 0, at)
 }
@@ -76,7 +76,7 @@ pub fn bad_nonzero(s: &[u8], at: usize) -> usize
 // A text of n bytes that is to be blank. It is judged as a whole: which of its bytes says something says nothing.
 pub fn bad_blank(s: &[u8], at: usize, n: usize) -> usize
     requires { at + n ≤ length s.now }
-    ensures { result ≡ place (badPlace blank at (part s.now at n)) }
+    ensures { result ≡ place (bad_place blank at (part s.now at n)) }
 {
     bad_unless(octets::are_all(s, at, n, b' '), at)
 }
@@ -84,7 +84,7 @@ pub fn bad_blank(s: &[u8], at: usize, n: usize) -> usize
 // The fourteen bytes are looked at one by one, so the place is that of the first byte that no token holds.
 pub fn bad_token(s: &[u8], at: usize) -> usize
     requires { at + 14 ≤ length s.now }
-    ensures { result ≡ place (badPlace legalToken at (part s.now at 14)) }
+    ensures { result ≡ place (bad_place legal_token at (part s.now at 14)) }
 {
     let end = at + 14;
     let mut i = at;
@@ -100,42 +100,42 @@ pub fn bad_token(s: &[u8], at: usize) -> usize
 
 pub fn bad_side(s: &[u8], at: usize) -> usize
     requires { at < length s.now }
-    ensures { result ≡ place (badPlace (one_of sides) at (part s.now at 1)) }
+    ensures { result ≡ place (bad_place (one_of sides) at (part s.now at 1)) }
 {
     bad_unless(is_side(octets::byte_at(s, at)), at)
 }
 
 pub fn bad_sweep(s: &[u8], at: usize) -> usize
     requires { at < length s.now }
-    ensures { result ≡ place (badPlace (one_of sweeps) at (part s.now at 1)) }
+    ensures { result ≡ place (bad_place (one_of sweeps) at (part s.now at 1)) }
 {
     bad_unless(is_sweep(octets::byte_at(s, at)), at)
 }
 
 pub fn bad_liquidity_flag(s: &[u8], at: usize) -> usize
     requires { at < length s.now }
-    ensures { result ≡ place (badPlace (one_of liquidityFlags) at (part s.now at 1)) }
+    ensures { result ≡ place (bad_place (one_of liquidity_flags) at (part s.now at 1)) }
 {
     bad_unless(is_liquidity_flag(octets::byte_at(s, at)), at)
 }
 
 pub fn bad_book_reason(s: &[u8], at: usize) -> usize
     requires { at < length s.now }
-    ensures { result ≡ place (badPlace (one_of bookReasons) at (part s.now at 1)) }
+    ensures { result ≡ place (bad_place (one_of book_reasons) at (part s.now at 1)) }
 {
     bad_unless(is_book_reason(octets::byte_at(s, at)), at)
 }
 
 pub fn bad_system_event(s: &[u8], at: usize) -> usize
     requires { at < length s.now }
-    ensures { result ≡ place (badPlace (one_of systemEvents) at (part s.now at 1)) }
+    ensures { result ≡ place (bad_place (one_of system_events) at (part s.now at 1)) }
 {
     bad_unless(is_system_event(octets::byte_at(s, at)), at)
 }
 
 pub fn bad_stock_state(s: &[u8], at: usize) -> usize
     requires { at < length s.now }
-    ensures { result ≡ place (badPlace (one_of stockStates) at (part s.now at 1)) }
+    ensures { result ≡ place (bad_place (one_of stock_states) at (part s.now at 1)) }
 {
     bad_unless(is_stock_state(octets::byte_at(s, at)), at)
 }

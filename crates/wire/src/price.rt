@@ -1,6 +1,6 @@
 // The price type: only a price that the paper lets an order have is ever made.
 ghost use Rattle.std.specs.Prelude.{◌≡◌};
-ghost use Rattle.wire.specs.Price.{pricedOf};
+ghost use Rattle.wire.specs.Price.{priced_of};
 
 use crate::letters::is_opening_or_closing;
 
@@ -23,7 +23,7 @@ impl Price {
 
     // A limit price, or the market price where the order is for the opening or the closing cross.
     pub fn new(price: u32, cross: u8) -> Priced
-        ensures { result ≡ pricedOf price cross }
+        ensures { result ≡ priced_of price cross }
     {
         let limit = (Price::LOWEST <= price) & (price <= Price::HIGHEST);
         let market = (price == Price::MARKET) & is_opening_or_closing(cross);

@@ -1,7 +1,7 @@
 // The two kinds of share number. A total counts from the start of an order's chain; removed shares are the step between two totals. The two
 // meet here and, where an order's executed and self-matched shares are added over 64 bits, in `orders::counts`, and nowhere else.
 ghost use Rattle.std.specs.Prelude.{◌≡◌, ◌+◌, ◌<◌, ◌^◌};
-ghost use Rattle.wire.specs.Shares.{◌isBelow◌, ◌equals◌, ◌less◌, ◌grownBy◌, ◌cutBy◌, ◌exceeds◌, ◌minus◌};
+ghost use Rattle.wire.specs.Shares.{◌is_below◌, ◌equals◌, ◌less◌, ◌grown_by◌, ◌cut_by◌, ◌exceeds◌, ◌minus◌};
 
 // Liable, executed, self-matched, an intended size, the Shares of O, U and M, a threshold.
 #[derive(Drop)]
@@ -13,7 +13,7 @@ pub struct Removed(pub u32);
 
 impl Total {
     pub fn is_below(self, other: Total) -> bool
-        ensures { result ≡ self isBelow other }
+        ensures { result ≡ self is_below other }
     {
         self.0 < other.0
     }
@@ -36,14 +36,14 @@ impl Total {
 
     pub fn grown_by(self, by: Removed) -> Total
         requires { self.0 + by.0 < 2 ^ 32 }
-        ensures { result ≡ self grownBy by }
+        ensures { result ≡ self grown_by by }
     {
         Total(self.0 + by.0)
     }
 
     // A total is never cut below 0.
     pub fn cut_by(self, by: Removed) -> Total
-        ensures { result ≡ self cutBy by }
+        ensures { result ≡ self cut_by by }
     {
         if by.0 < self.0 {
             return Total(self.0 - by.0);

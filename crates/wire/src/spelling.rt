@@ -1,11 +1,11 @@
 // A message is spelled into eighty bytes, the length of the longest: the type, then field by field at its offset.
 ghost use Rattle.std.specs.Prelude.{◌≡◌, ◌+◌, ◌<◌, ◌≤◌, length};
 ghost use Rattle.octets.specs.Bytes.{put, digits, zeros};
-ghost use Rattle.wire.specs.Limits.{longestMessage};
+ghost use Rattle.wire.specs.Limits.{longest_message};
 
 // The type, with zeros behind it.
 pub fn started(letter: u8) -> [u8; 80]
-    ensures { result ≡ put (zeros longestMessage) 0 (digits 1 letter) }
+    ensures { result ≡ put (zeros longest_message) 0 (digits 1 letter) }
 {
     let mut t = [0u8; 80];
     put_letter(&mut t, 0, letter);

@@ -1,6 +1,6 @@
 // The shapes of text that the paper names: what a token holds, and how a stock or a firm is written.
 ghost use Rattle.std.specs.Prelude.{◌≡◌};
-ghost use Rattle.wire.specs.Text.{capital, small, digit, tokenByte, shaped};
+ghost use Rattle.wire.specs.Text.{capital, small, digit, token_byte, shaped};
 
 fn is_capital(b: u8) -> bool
     ensures { result ≡ capital b }
@@ -10,7 +10,7 @@ fn is_capital(b: u8) -> bool
 
 // A letter, a digit or a space.
 pub fn is_token_byte(b: u8) -> bool
-    ensures { result ≡ tokenByte b }
+    ensures { result ≡ token_byte b }
 {
     is_capital(b) | ((b'a' <= b) & (b <= b'z')) | ((b'0' <= b) & (b <= b'9')) | (b == b' ')
 }

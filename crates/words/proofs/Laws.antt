@@ -2,7 +2,7 @@
 use Rattle.octets.proofs.Proving.{Bool, List, ◌&&◌, ◌∙◌, ◌≡◌, ◌≤◌, ap, false, guard, leb, leb-true, lit≤, refl, subst, sym, true, ℕ}
 use Rattle.octets.specs.Bytes.{same}
 use Rattle.octets.proofs.Below.{same_true, same_self, both}
-use Rattle.words.specs.Words.{Words, Word, Ring, Release, Records, Unknown, Heard, usual, takes, withWord, word_of, number_in, heard, Allowed}
+use Rattle.words.specs.Words.{Words, Word, Ring, Release, Records, Unknown, Heard, usual, takes, with_word, word_of, number_in, heard, Allowed}
 
 -- a test that is true exactly of equal texts is the computed one
 pub same-tells : (xs ys : List ℕ) (b : Bool) → (b ≡ true → xs ≡ ys) × (xs ≡ ys → b ≡ true) → b ≡ same xs ys
@@ -20,7 +20,7 @@ usual-allowed = record { ring-low = lit≤ tt; ring-high = lit≤ tt; release-lo
 within : {n low high : ℕ} → leb low n && leb n high ≡ true → (low ≤ n) × (n ≤ high)
 within {n} {low} {high} e = let h = both (leb low n) (leb n high) e in (leb-true low n h.0, leb-true n high h.1)
 
-pub word-allowed : (w : Words) (word : Word) (n : ℕ) → Allowed w → takes word n ≡ true → Allowed (withWord w word n)
+pub word-allowed : (w : Words) (word : Word) (n : ℕ) → Allowed w → takes word n ≡ true → Allowed (with_word w word n)
 word-allowed w Ring n a e =
     let h = within e in
     record { ring-low = h.0; ring-high = h.1; release-low = a.release-low; records-low = a.records-low; records-high = a.records-high }

@@ -6,8 +6,8 @@ mod numbers;
 
 ghost use Rattle.std.specs.Prelude.{◌≡◌, ◌<◌, ◌≤◌};
 ghost use Rattle.octets.specs.Bytes.{same};
-ghost use Rattle.table.specs.Table.{tableSize};
-ghost use Rattle.words.specs.Words.{usual, longestTable, word_of, takes, withWord, heard, Allowed};
+ghost use Rattle.table.specs.Table.{table_size};
+ghost use Rattle.words.specs.Words.{usual, longest_table, word_of, takes, with_word, heard, Allowed};
 
 use crate::numbers::number_in;
 use desk::RING_SIZE;
@@ -47,7 +47,7 @@ pub fn usual() -> Words
 // How long the table is that the words ask for.
 pub fn table_length(words: Words) -> usize
     requires { Allowed words }
-    ensures { (result ≡ tableSize words.records) × (result ≤ longestTable) }
+    ensures { (result ≡ table_size words.records) × (result ≤ longest_table) }
 {
     table_size(words.records)
 }
@@ -94,7 +94,7 @@ fn takes(word: Word, n: usize) -> bool
 }
 
 fn with_word(before: Words, word: Word, n: usize) -> Words
-    ensures { result ≡ withWord before word n }
+    ensures { result ≡ with_word before word n }
 {
     let ring = before.ring;
     let release = before.release;

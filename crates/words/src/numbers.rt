@@ -1,6 +1,6 @@
 // A number as it is typed: decimal digits and nothing else.
 ghost use Rattle.std.specs.Prelude.{◌≡◌, ◌≤◌};
-ghost use Rattle.words.specs.Words.{noNumber, withDigit, number_in};
+ghost use Rattle.words.specs.Words.{no_number, with_digit, number_in};
 
 // No word takes a larger one.
 const LARGEST: usize = 65_536;
@@ -10,7 +10,7 @@ const NO_NUMBER: usize = 65_537;
 
 // The number with one digit more.
 fn with_digit(n: usize, digit: u8) -> usize
-    ensures { (result ≡ withDigit n digit) × (result ≤ noNumber) }
+    ensures { (result ≡ with_digit n digit) × (result ≤ no_number) }
 {
     if LARGEST < n {
         return NO_NUMBER;

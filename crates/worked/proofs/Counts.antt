@@ -2,11 +2,11 @@
 use mathlib.Core.Path.{◌≡◌, refl}
 use mathlib.Core.Bool.{true}
 use Rattle.octets.specs.Choice.{every}
-use Rattle.worked.specs.Counts.{freshOdds, counts, damages, statuses}
+use Rattle.worked.specs.Counts.{fresh_odds, counts, damages, statuses}
 use Rattle.worked.proofs.Below.{below}
 use Rattle.worked.proofs.Opened.{opened}
 
-pub fresh-odds-hold : every freshOdds ≡ true
+pub fresh-odds-hold : every fresh_odds ≡ true
 unfolding below opened
 fresh-odds-hold = refl
 

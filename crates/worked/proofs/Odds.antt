@@ -2,7 +2,7 @@
 use mathlib.Core.Path.{◌≡◌, refl}
 use mathlib.Core.Bool.{true}
 use Rattle.octets.specs.Choice.{every}
-use Rattle.worked.specs.Odds.{soundness, stepOdds, callOdds}
+use Rattle.worked.specs.Odds.{soundness, step_odds, call_odds}
 use Rattle.worked.proofs.Below.{below}
 use Rattle.worked.proofs.Opened.{opened}
 
@@ -10,10 +10,10 @@ pub soundness-holds : every soundness ≡ true
 unfolding below opened
 soundness-holds = refl
 
-pub step-odds-hold : every stepOdds ≡ true
+pub step-odds-hold : every step_odds ≡ true
 unfolding below opened
 step-odds-hold = refl
 
-pub call-odds-hold : every callOdds ≡ true
+pub call-odds-hold : every call_odds ≡ true
 unfolding below opened
 call-odds-hold = refl

@@ -2,18 +2,18 @@
 use mathlib.Core.Path.{◌≡◌, refl}
 use mathlib.Core.Bool.{true}
 use Rattle.octets.specs.Choice.{every}
-use Rattle.worked.specs.Places.{clientsPlaces, enginesPlaces, severalPlaces}
+use Rattle.worked.specs.Places.{clients_places, engines_places, several_places}
 use Rattle.worked.proofs.Below.{below}
 use Rattle.worked.proofs.Opened.{opened}
 
-pub clients-places-hold : every clientsPlaces ≡ true
+pub clients-places-hold : every clients_places ≡ true
 unfolding below opened
 clients-places-hold = refl
 
-pub engines-places-hold : every enginesPlaces ≡ true
+pub engines-places-hold : every engines_places ≡ true
 unfolding below opened
 engines-places-hold = refl
 
-pub several-places-hold : every severalPlaces ≡ true
+pub several-places-hold : every several_places ≡ true
 unfolding below opened
 several-places-hold = refl

@@ -2,19 +2,19 @@
 use mathlib.Core.Path.{◌≡◌, refl}
 use mathlib.Core.Bool.{true}
 use Rattle.octets.specs.Choice.{every}
-use Rattle.worked.specs.Case.{allHold}
-use Rattle.worked.specs.Purges.{purges, blocks, byte3Odds}
+use Rattle.worked.specs.Case.{all_hold}
+use Rattle.worked.specs.Purges.{purges, blocks, byte3_odds}
 use Rattle.worked.proofs.Below.{below}
 use Rattle.worked.proofs.Opened.{opened}
 
-pub purges-hold : allHold purges ≡ true
+pub purges-hold : all_hold purges ≡ true
 unfolding below opened
 purges-hold = refl
 
-pub blocks-hold : allHold blocks ≡ true
+pub blocks-hold : all_hold blocks ≡ true
 unfolding below opened
 blocks-hold = refl
 
-pub byte-3-odds-hold : every byte3Odds ≡ true
+pub byte-3-odds-hold : every byte3_odds ≡ true
 unfolding below opened
 byte-3-odds-hold = refl

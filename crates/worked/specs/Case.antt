@@ -2,12 +2,12 @@
 use Rattle.std.specs.Prelude.{ℕ, Bool, ◌||◌, List, [], ◌∷◌, map, drop, eqb}
 use Prim.Native.String.{String}
 use Rattle.octets.specs.Choice.{every}
-use Rattle.octets.specs.Bytes.{allAre, same}
-use Rattle.answers.specs.Answer.{answerNumber}
-use Rattle.wire.specs.Letters.{live, dead, rejectedToken}
-use Rattle.orders.specs.Counts.{openShares}
+use Rattle.octets.specs.Bytes.{all_are, same}
+use Rattle.answers.specs.Answer.{answer_number}
+use Rattle.wire.specs.Letters.{live, dead, rejected_token}
+use Rattle.orders.specs.Counts.{open_shares}
 use Rattle.orders.specs.declared.order.Order.{Order}
-use Rattle.table.specs.Table.{orderNamed, place_of, recordBytes}
+use Rattle.table.specs.Table.{order_named, place_of, record_bytes}
 use Rattle.outbox.specs.Outbox.{held}
 use Rattle.host.specs.Step.{World, step}
 use Rattle.worked.specs.Play.{play, small}
@@ -17,16 +17,16 @@ use Rattle.worked.specs.Entries.{token}
 
 pub data Left : Type 0 where
   -- token, liable, executed, self-matched, open
-  liveOrder : String → ℕ → ℕ → ℕ → ℕ → Left
-  deadOrder : String → ℕ → ℕ → ℕ → ℕ → Left
+  live_order : String → ℕ → ℕ → ℕ → ℕ → Left
+  dead_order : String → ℕ → ℕ → ℕ → ℕ → Left
   -- no record has it
   free : String → Left
   -- it is stored as rejected
-  usedUp : String → Left
+  used_up : String → Left
   -- all 80 bytes of its record are what they were before the entry
   intact : String → Left
   -- the time in force that its record holds
-  timeStored : String → ℕ → Left
+  time_stored : String → ℕ → Left
 
 unfoldable pub stands : Order → ℕ → ℕ → ℕ → ℕ → ℕ → Bool
 stands o state liable executed matched exposed =
@@ -35,20 +35,20 @@ stands o state liable executed matched exposed =
     ∷ eqb o.shares.liable.0 liable
     ∷ eqb o.shares.executed.0 executed
     ∷ eqb o.shares.matched.0 matched
-    ∷ eqb (openShares o.shares).0 exposed
+    ∷ eqb (open_shares o.shares).0 exposed
     ∷ [])
 
-unfoldable pub recordNamed : List ℕ → String → List ℕ
-recordNamed t name = recordBytes t (place_of t (token name))
+unfoldable pub record_named : List ℕ → String → List ℕ
+record_named t name = record_bytes t (place_of t (token name))
 
 -- from the table before the entry and the one after it
-unfoldable pub leftIs : List ℕ → List ℕ → Left → Bool
-leftIs before t (liveOrder name liable executed matched exposed) = stands (orderNamed t (token name)) live liable executed matched exposed
-leftIs before t (deadOrder name liable executed matched exposed) = stands (orderNamed t (token name)) dead liable executed matched exposed
-leftIs before t (free name) = stands (orderNamed t (token name)) 0 0 0 0 0
-leftIs before t (usedUp name) = stands (orderNamed t (token name)) rejectedToken 0 0 0 0
-leftIs before t (intact name) = same (recordNamed before name) (recordNamed t name)
-leftIs before t (timeStored name time) = eqb (orderNamed t (token name)).details.terms.time time
+unfoldable pub left_is : List ℕ → List ℕ → Left → Bool
+left_is before t (live_order name liable executed matched exposed) = stands (order_named t (token name)) live liable executed matched exposed
+left_is before t (dead_order name liable executed matched exposed) = stands (order_named t (token name)) dead liable executed matched exposed
+left_is before t (free name) = stands (order_named t (token name)) 0 0 0 0 0
+left_is before t (used_up name) = stands (order_named t (token name)) rejected_token 0 0 0 0
+left_is before t (intact name) = same (record_named before name) (record_named t name)
+left_is before t (time_stored name time) = eqb (order_named t (token name)).details.terms.time time
 
 -- ---- cases
 
@@ -71,8 +71,8 @@ after before offer entry answers answer sends message leaves left =
     record { on = small; before = before; held = 0; entry = entry; answer = answer; message = message; left = left }
 
 -- the same on another host
-abbrev pub playedOn : World → Case → Case
-playedOn on c =
+abbrev pub played_on : World → Case → Case
+played_on on c =
     record { on = on; before = c.before; held = c.held; entry = c.entry; answer = c.answer; message = c.message; left = c.left }
 
 -- the same with n bytes held when the entry is offered
@@ -81,8 +81,8 @@ crowded n c =
     record { on = c.on; before = c.before; held = n; entry = c.entry; answer = c.answer; message = c.message; left = c.left }
 
 -- only 0 changes anything, whatever a case says of the orders
-unfoldable pub unlessDone : ℕ → World → World → Bool
-unlessDone answer w now =
+unfoldable pub unless_done : ℕ → World → World → Bool
+unless_done answer w now =
     eqb answer 0
     || every
     (same w.books.table now.books.table
@@ -102,12 +102,12 @@ holds c =
     let w = holding played.world c.held in
     let r = step w c.entry in
     every
-    (allAre 0 played.answers
-    ∷ eqb (answerNumber r.answer) c.answer
+    (all_are 0 played.answers
+    ∷ eqb (answer_number r.answer) c.answer
     ∷ same (drop c.held (held r.world.ring r.world.marks)) c.message
-    ∷ unlessDone c.answer w r.world
-    ∷ every (map (leftIs w.books.table r.world.books.table) c.left)
+    ∷ unless_done c.answer w r.world
+    ∷ every (map (left_is w.books.table r.world.books.table) c.left)
     ∷ [])
 
-unfoldable pub allHold : List Case → Bool
-allHold cs = every (map holds cs)
+unfoldable pub all_hold : List Case → Bool
+all_hold cs = every (map holds cs)

@@ -29,13 +29,13 @@ unfoldable pub good : String → List ℕ
 good name = enter name 500 10_000 0 "N"
 
 -- existing token, replacement token, shares, time in force, display, minimum; at 2.0000
-unfoldable pub replaceAs : String → String → ℕ → ℕ → String → ℕ → List ℕ
-replaceAs existing name shares time display minimum =
+unfoldable pub replace_as : String → String → ℕ → ℕ → String → ℕ → List ℕ
+replace_as existing name shares time display minimum =
     text "U" ++ stamp ++ token existing ++ token name ++ digits 4 shares ++ digits 4 20_000 ++ digits 4 time ++ text display ++ text "N"
     ++ digits 4 minimum
 
 unfoldable pub replace : String → String → ℕ → List ℕ
-replace existing name shares = replaceAs existing name shares 99_999 "Y" 0
+replace existing name shares = replace_as existing name shares 99_999 "Y" 0
 
 -- token, intended size
 unfoldable pub cancel : String → ℕ → List ℕ
@@ -50,12 +50,12 @@ unfoldable pub execute : String → ℕ → List ℕ
 execute name shares = text "e" ++ stamp ++ token name ++ digits 4 shares ++ digits 4 10_000 ++ text "A" ++ digits 8 7
 
 -- token, shares, which are all prevented; at 1.0000, flag A
-unfoldable pub selfMatch : String → ℕ → List ℕ
-selfMatch name shares = text "q" ++ stamp ++ token name ++ digits 4 shares ++ digits 4 shares ++ digits 4 10_000 ++ text "A"
+unfoldable pub self_match : String → ℕ → List ℕ
+self_match name shares = text "q" ++ stamp ++ token name ++ digits 4 shares ++ digits 4 shares ++ digits 4 10_000 ++ text "A"
 
 -- token, shares, reason
-unfoldable pub bookCancel : String → ℕ → String → List ℕ
-bookCancel name shares reason = text "c" ++ stamp ++ token name ++ digits 4 shares ++ text reason
+unfoldable pub book_cancel : String → ℕ → String → List ℕ
+book_cancel name shares reason = text "c" ++ stamp ++ token name ++ digits 4 shares ++ text reason
 
 -- token, price
 unfoldable pub prioritise : String → ℕ → List ℕ
@@ -64,8 +64,8 @@ prioritise name price = text "p" ++ stamp ++ token name ++ digits 4 price
 unfoldable pub late : String → List ℕ
 late name = text "l" ++ stamp ++ token name
 
-unfoldable pub crossDone : String → List ℕ
-crossDone name = text "f" ++ stamp ++ token name
+unfoldable pub cross_done : String → List ℕ
+cross_done name = text "f" ++ stamp ++ token name
 
 -- symbol, state (Ask 2)
 unfoldable pub halt : String → String → List ℕ
@@ -86,36 +86,36 @@ enable firm = text "n" ++ stamp ++ text firm
 
 -- ---- an entry with one field changed
 
-unfoldable pub stampedAt : ℕ → List ℕ → List ℕ
-stampedAt n e = put e 1 (digits 8 n)
+unfoldable pub stamped_at : ℕ → List ℕ → List ℕ
+stamped_at n e = put e 1 (digits 8 n)
 
 -- of an Enter; firm and display stand in the same places of an Accepted
-infixl 68 ◌onSide◌
-unfoldable pub ◌onSide◌ : List ℕ → String → List ℕ
-e onSide side = put e 23 (text side)
+infixl 68 ◌on_side◌
+unfoldable pub ◌on_side◌ : List ℕ → String → List ℕ
+e on_side side = put e 23 (text side)
 
-infixl 68 ◌inStock◌
-unfoldable pub ◌inStock◌ : List ℕ → String → List ℕ
-e inStock stock = put e 28 (text stock)
+infixl 68 ◌in_stock◌
+unfoldable pub ◌in_stock◌ : List ℕ → String → List ℕ
+e in_stock stock = put e 28 (text stock)
 
-infixl 68 ◌forFirm◌
-unfoldable pub ◌forFirm◌ : List ℕ → String → List ℕ
-e forFirm firm = put e 44 (text firm)
+infixl 68 ◌for_firm◌
+unfoldable pub ◌for_firm◌ : List ℕ → String → List ℕ
+e for_firm firm = put e 44 (text firm)
 
 infixl 68 ◌displayed◌
 unfoldable pub ◌displayed◌ : List ℕ → String → List ℕ
 e displayed display = put e 48 (text display)
 
-infixl 68 ◌inCapacity◌
-unfoldable pub ◌inCapacity◌ : List ℕ → String → List ℕ
-e inCapacity capacity = put e 49 (text capacity)
+infixl 68 ◌in_capacity◌
+unfoldable pub ◌in_capacity◌ : List ℕ → String → List ℕ
+e in_capacity capacity = put e 49 (text capacity)
 
 infixl 68 ◌swept◌
 unfoldable pub ◌swept◌ : List ℕ → String → List ℕ
 e swept sweep = put e 50 (text sweep)
 
-infixl 68 ◌atLeast◌
-unfoldable pub ◌atLeast◌ : List ℕ → ℕ → List ℕ
+infixl 68 ◌at_least◌
+unfoldable pub ◌at_least◌ : List ℕ → ℕ → List ℕ
 e at_least minimum = put e 51 (digits 4 minimum)
 
 -- ---- what went before: each entry is done
@@ -132,24 +132,24 @@ unfoldable pub entered : List (List ℕ)
 entered = begun then enter "A" 500 10_000 99_999 "N" then execute "A" 100
 
 -- and 50 self-matched
-unfoldable pub selfMatched : List (List ℕ)
-selfMatched = entered then selfMatch "A" 50
+unfoldable pub self_matched : List (List ℕ)
+self_matched = entered then self_match "A" 50
 
 -- the same in the closing cross, and late
-unfoldable pub enteredLate : List (List ℕ)
-enteredLate = begun then enter "A" 500 10_000 99_999 "C" then execute "A" 100 then late "A"
+unfoldable pub entered_late : List (List ℕ)
+entered_late = begun then enter "A" 500 10_000 99_999 "C" then execute "A" 100 then late "A"
 
 -- and 50 self-matched
-unfoldable pub selfMatchedLate : List (List ℕ)
-selfMatchedLate = enteredLate then selfMatch "A" 50
+unfoldable pub self_matched_late : List (List ℕ)
+self_matched_late = entered_late then self_match "A" 50
 
 -- ABC is halted
-unfoldable pub haltedThen : List (List ℕ) → List (List ℕ)
-haltedThen es = es then halt "ABC     " "H"
+unfoldable pub halted_then : List (List ℕ) → List (List ℕ)
+halted_then es = es then halt "ABC     " "H"
 
 -- ABCD is blocked (Ask 5)
-unfoldable pub blockedThen : List (List ℕ) → List (List ℕ)
-blockedThen es = es then disable "ABCD"
+unfoldable pub blocked_then : List (List ℕ) → List (List ℕ)
+blocked_then es = es then disable "ABCD"
 
 -- the day is over
 unfoldable pub closing : List (List ℕ)
@@ -161,4 +161,4 @@ full = entered then enter "C" 1 10_000 0 "N" then enter "D" 0 10_000 0 "N"
 
 -- an order to sell that isn't displayed
 unfoldable pub sold : List (List ℕ)
-sold = begun then (good "A" onSide "S" displayed "N")
+sold = begun then (good "A" on_side "S" displayed "N")

@@ -3,14 +3,14 @@ use Rattle.std.specs.Prelude.{ℕ, List, [], ◌∷◌, ◌++◌, map, length, t
 use Prim.Native.String.{String}
 use Rattle.octets.specs.Choice.{text}
 use Rattle.octets.specs.Bytes.{zeros}
-use Rattle.answers.specs.Answer.{answerNumber}
+use Rattle.answers.specs.Answer.{answer_number}
 use Rattle.wire.specs.Shares.{total}
-use Rattle.header.specs.Limits.{mostFirms, firmSize}
+use Rattle.header.specs.Limits.{most_firms, firm_size}
 use Rattle.header.specs.declared.settings.Firm.{Firm}
 use Rattle.header.specs.declared.settings.Settings.{Settings}
-use Rattle.table.specs.Table.{tableSize}
-use Rattle.table.specs.Fresh.{freshTable}
-use Rattle.outbox.specs.Outbox.{held, releaseMarks}
+use Rattle.table.specs.Table.{table_size}
+use Rattle.table.specs.Fresh.{fresh_table}
+use Rattle.outbox.specs.Outbox.{held, release_marks}
 use Rattle.host.specs.Step.{World, world, step}
 
 -- ---- a host
@@ -23,17 +23,17 @@ unfoldable pub settings : ℕ → List String → ℕ → Settings
 settings threshold firms count =
     record {
       threshold = total threshold;
-      firms = take mostFirms (map (λ (f : String). coded (text f)) firms ++ replicate mostFirms (coded (zeros firmSize)));
+      firms = take most_firms (map (λ (f : String). coded (text f)) firms ++ replicate most_firms (coded (zeros firm_size)));
       count = count;
     }
 
 -- one stock, ABC, which trades (Ask 2)
-unfoldable pub oneStock : List ℕ
-oneStock = text "ABC     T"
+unfoldable pub one_stock : List ℕ
+one_stock = text "ABC     T"
 
 -- fresh, with n records, a ring of r bytes and that stock
 unfoldable pub host : Settings → ℕ → ℕ → World
-host s n r = world (freshTable (zeros (tableSize n)) s) (zeros r) (record { at = 0; held = 0 }) oneStock
+host s n r = world (fresh_table (zeros (table_size n)) s) (zeros r) (record { at = 0; held = 0 }) one_stock
 
 -- the same with another list
 infixl 68 ◌lending◌
@@ -57,7 +57,7 @@ pub record Played : Type 0 where
 
 unfoldable pub emptied : World → World
 emptied w =
-    record { books = w.books; ring = w.ring; marks = releaseMarks (length w.ring) w.marks w.marks.held }
+    record { books = w.books; ring = w.ring; marks = release_marks (length w.ring) w.marks w.marks.held }
 
 unfoldable pub play : World → List (List ℕ) → Played
 play w [] = record { answers = []; sent = []; world = w }
@@ -65,11 +65,11 @@ play w (e ∷ es) =
     let r = step w e in
     let rest = play (emptied r.world) es in
     record {
-      answers = answerNumber r.answer ∷ rest.answers;
+      answers = answer_number r.answer ∷ rest.answers;
       sent = held r.world.ring r.world.marks ∷ rest.sent;
       world = rest.world;
     }
 
 -- the table that these entries leave on the small host
-unfoldable pub tableAfter : List (List ℕ) → List ℕ
-tableAfter es = (play small es).world.books.table
+unfoldable pub table_after : List (List ℕ) → List ℕ
+table_after es = (play small es).world.books.table

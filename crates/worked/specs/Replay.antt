@@ -7,15 +7,15 @@ use Rattle.worked.specs.Entries.{start, enter, cancel}
 unfoldable pub tape : List (List ℕ)
 tape = start ∷ enter "A" 500 10_000 99_999 "N" ∷ cancel "A" 0 ∷ cancel "A" 0 ∷ []
 
-unfoldable pub typeSent : List ℕ → ℕ
-typeSent message = get_or message 0 (code "-")
+unfoldable pub type_sent : List ℕ → ℕ
+type_sent message = get_or message 0 (code "-")
 
-unfoldable pub bytesSent : List (List ℕ) → ℕ
-bytesSent [] = 0
-bytesSent (m ∷ ms) = length m + bytesSent ms
+unfoldable pub bytes_sent : List (List ℕ) → ℕ
+bytes_sent [] = 0
+bytes_sent (m ∷ ms) = length m + bytes_sent ms
 
 -- the columns `answer` and `sent`, and the bytes of the last line, of a host with n records and a ring of r bytes
 unfoldable pub replayed : ℕ → ℕ → List ℕ × List ℕ × ℕ
 replayed n r =
     let p = play (host practice n r) tape in
-    (p.answers, map typeSent p.sent, bytesSent p.sent)
+    (p.answers, map type_sent p.sent, bytes_sent p.sent)

@@ -1,12 +1,12 @@
 -- The byte's bit, or past the row none. Assumes nothing.
 use Rattle.octets.proofs.Proving.{arith, needs, sym}
-use Rattle.bitrow.specs.Row.{bitAt}
+use Rattle.bitrow.specs.Row.{bit_at}
 use Rattle.bitrow.proofs.Rows.{bit-past-row}
 use Rattle.bitrow.proofs.bit_at.Statement.{statement}
 use Rattle.bitrow.proofs.bit_at.Tie as tie
 
 returns : tie.Need-returns
-unfolding bitAt
+unfolding bit_at
 returns c = c.bit-of.ensures
 
 returns-2 : tie.Need-returns-2

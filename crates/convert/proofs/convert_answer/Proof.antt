@@ -1,6 +1,6 @@
 -- The first that applies. Assumes nothing.
 use Rattle.octets.proofs.Proving.{answered, arith, unasked}
-use Rattle.convert.specs.Convert.{convertAnswer}
+use Rattle.convert.specs.Convert.{convert_answer}
 use Rattle.convert.proofs.Former.{of-old-sound}
 use Rattle.convert.proofs.convert_answer.Statement.{statement}
 use Rattle.convert.proofs.convert_answer.Tie as tie
@@ -12,14 +12,14 @@ table-size-requires c κs =
     omega (arith, c.old-records.ensures, ok.size.most)
 
 returns : tie.Need-returns
-unfolding convertAnswer
+unfolding convert_answer
 returns c =
     let asked = c.before.before.before.before in
     rw (answered asked.old-sound.ensures c.before.before.before.if1.true, ← c.before.before.old-records.ensures, ← c.before.table-size.ensures)
     c.first_of.ensures
 
 returns-2 : tie.Need-returns-2
-unfolding convertAnswer
+unfolding convert_answer
 returns-2 c = rw (answered c.before.old-sound.ensures c.if1.false)
 
 pub convert-answer-spec : {M : Type 1} → statement M

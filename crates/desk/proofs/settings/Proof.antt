@@ -1,12 +1,12 @@
 -- The firms' places and their letters compute. Assumes nothing.
 use mathlib.Core.Path.{refl}
 use Rattle.octets.specs.Choice.{text}
-use Rattle.desk.specs.Desk.{deskSettings}
+use Rattle.desk.specs.Desk.{desk_settings}
 use Rattle.desk.proofs.settings.Statement.{statement}
 use Rattle.desk.proofs.settings.Tie as tie
 
 returns : tie.Need-returns
-unfolding deskSettings text
+unfolding desk_settings text
 returns c = refl
 
 pub settings-spec : {M : Type 1} → statement M

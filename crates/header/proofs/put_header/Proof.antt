@@ -1,7 +1,7 @@
 -- Each run is put right behind the last one, and together they are the whole. Assumes nothing.
 use Rattle.octets.proofs.Proving.{List, [], ◌∙◌, ◌∷◌, ap, arith, length, needs, refl}
 use Rattle.octets.proofs.Laws.{put_whole}
-use Rattle.wire.specs.Layout.{Field, ◌&◌, unbroken, textAt}
+use Rattle.wire.specs.Layout.{Field, ◌&◌, unbroken, text_at}
 use Rattle.wire.specs.Layout.{◌then◌, ends}
 use Rattle.wire.proofs.Puts.{puts-at}
 use Rattle.header.specs.Runs.{moments, standing}
@@ -11,7 +11,7 @@ use Rattle.header.proofs.put_header.Tie as tie
 
 -- the runs as fields of bytes
 abbrev runs : List Field
-runs = textAt 0 16 ∷ textAt 16 44 ∷ []
+runs = text_at 0 16 ∷ text_at 16 44 ∷ []
 
 returns : tie.Need-returns
 unfolding unbroken

@@ -3,7 +3,7 @@ use Rattle.octets.proofs.Proving.{arith, needs, refl}
 use Rattle.wire.specs.Layout.{unbroken}
 use Rattle.wire.specs.Layout.{◌then◌, ends}
 use Rattle.wire.proofs.Puts.{puts-at}
-use Rattle.header.specs.Runs.{momentFields, momentValues, moments}
+use Rattle.header.specs.Runs.{moment_fields, moment_values, moments}
 use Rattle.header.proofs.put_moments.Statement.{statement}
 use Rattle.header.proofs.put_moments.Tie as tie
 
@@ -17,7 +17,7 @@ returns c =
     let p2 = p3.before.before.before.before in
     let p1 = p2.before.before.before.before in
     let start = p1.before.before.before in
-    let put = puts-at momentFields (momentValues start.args.h) start.args.s.now
+    let put = puts-at moment_fields (moment_values start.args.h) start.args.s.now
     (p1.put_byte.ensures then p2.put-byte2.ensures then p3.put-byte3.ensures then p4.put-byte4.ensures then p5.put-be32.ensures then p6.put-be64.ensures then ends)
     0 16 refl (omega (arith, start.requires)) in
     (put.0, omega (arith, put.1))

@@ -1,6 +1,6 @@
 -- The number of the answer, and the two numbers as they are told. Assumes nothing.
 use Rattle.octets.proofs.Proving.{◌∙◌, ap, unasked}
-use Rattle.answers.specs.Answer.{answerNumber}
+use Rattle.answers.specs.Answer.{answer_number}
 use Rattle.table.specs.declared.status.Tally.{Tally}
 use Rattle.port.proofs.pq_status.Statement.{statement}
 use Rattle.port.proofs.pq_status.Tie as tie
@@ -9,7 +9,7 @@ returns : tie.Need-returns
 returns c =
     let told = c.before.status.ensures in
     record {
-      numbered = c.number.ensures ∙ ap (λ (t : Tally). answerNumber t.answer) told;
+      numbered = c.number.ensures ∙ ap (λ (t : Tally). answer_number t.answer) told;
       lives = ap (λ (t : Tally). t.live) told;
       opens = ap (λ (t : Tally). t.shares) told;
     }

@@ -1,6 +1,6 @@
 -- The number of the step's answer, and what the step leaves. Assumes nothing.
 use Rattle.octets.proofs.Proving.{◌∙◌, ap, needs, unasked}
-use Rattle.answers.specs.Answer.{answerNumber, answerPlace}
+use Rattle.answers.specs.Answer.{answer_number, answer_place}
 use Rattle.port.proofs.pq_step.Statement.{statement}
 use Rattle.port.proofs.pq_step.Tie as tie
 
@@ -9,8 +9,8 @@ returns c =
     let after = c.before.before in
     let leaves = after.before.before.before.before.before.before.before.step.ensures in
     record {
-      numbered = c.number.ensures ∙ ap answerNumber leaves.answered;
-      placed = c.before.place.ensures ∙ ap answerPlace leaves.answered;
+      numbered = c.number.ensures ∙ ap answer_number leaves.answered;
+      placed = c.before.place.ensures ∙ ap answer_place leaves.answered;
       tabled = leaves.tabled;
       ringed = leaves.ringed;
       marked = leaves.marked;

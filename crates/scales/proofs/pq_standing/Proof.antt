@@ -1,17 +1,17 @@
 -- The number of how the symbol stands; all its bytes are copied out. Assumes nothing.
 use Rattle.octets.proofs.Proving.{List, ◌∙◌, ◌≡◌, ap, length, needs, sym, take, take-length, ℕ}
 use Rattle.octets.specs.Bytes.{part}
-use Rattle.stocks.specs.Limits.{symbolSize}
-use Rattle.stocks.specs.Stocks.{standingIn}
+use Rattle.stocks.specs.Limits.{symbol_size}
+use Rattle.stocks.specs.Stocks.{standing_in}
 use Rattle.stocks.specs.declared.standing.Standing.{Standing}
-use Rattle.scales.specs.Numbers.{standingNumber}
+use Rattle.scales.specs.Numbers.{standing_number}
 use Rattle.scales.proofs.pq_standing.Statement.{statement}
 use Rattle.scales.proofs.pq_standing.Tie as tie
 
-told : (l s : List ℕ) {eight : List ℕ} {r known : Standing} → length s ≡ symbolSize → eight ≡ part s 0 symbolSize → r ≡ standingIn l eight → r ≡ known
-    → standingNumber known ≡ standingNumber (standingIn l s)
+told : (l s : List ℕ) {eight : List ℕ} {r known : Standing} → length s ≡ symbol_size → eight ≡ part s 0 symbol_size → r ≡ standing_in l eight → r ≡ known
+    → standing_number known ≡ standing_number (standing_in l s)
 told l s long copied is known =
-    ap standingNumber (sym known ∙ is ∙ ap (standingIn l) (copied ∙ ap (λ (n : ℕ). take n s) (sym long) ∙ take-length s))
+    ap standing_number (sym known ∙ is ∙ ap (standing_in l) (copied ∙ ap (λ (n : ℕ). take n s) (sym long) ∙ take-length s))
 
 returns : tie.Need-returns
 returns c =

@@ -1,18 +1,18 @@
 -- The table's own length for so many records, which grows with them. Assumes nothing.
 use Rattle.octets.proofs.Proving.{◌≡◌, arith, refl}
-use Rattle.bitrow.specs.Row.{bytesFor}
-use Rattle.table.specs.Limits.{mostRecords}
-use Rattle.table.specs.Table.{tableSize}
-use Rattle.words.specs.Words.{longestTable}
+use Rattle.bitrow.specs.Row.{bytes_for}
+use Rattle.table.specs.Limits.{most_records}
+use Rattle.table.specs.Table.{table_size}
+use Rattle.words.specs.Words.{longest_table}
 use Rattle.words.proofs.table_length.Statement.{statement}
 use Rattle.words.proofs.table_length.Tie as tie
 
-pub longest : longestTable ≡ tableSize mostRecords
-unfolding tableSize bytesFor
+pub longest : longest_table ≡ table_size most_records
+unfolding table_size bytes_for
 longest = refl
 
 returns : tie.Need-returns
-unfolding tableSize bytesFor
+unfolding table_size bytes_for
 returns c =
     let n = c.table-size.ensures in
     (n, omega (arith, n, c.before.requires.records-high))

@@ -7,13 +7,13 @@ use Rattle.words.proofs.word_of.Tie as tie
 
 returns : tie.Need-returns
 unfolding word_of text
-returns c = simp (sym c.before.is_IsWord.ensures ∙ c.if1.true)
+returns c = simp (sym c.before.is_Is_word.ensures ∙ c.if1.true)
 
 returns-2 : tie.Need-returns-2
 unfolding word_of text
 returns-2 c =
     let p = c.before.before.before in
-    simp (sym p.before.is_IsWord.ensures ∙ p.if1.false, sym c.before.is-word2.ensures ∙ c.if2.true)
+    simp (sym p.before.is_Is_word.ensures ∙ p.if1.false, sym c.before.is-word2.ensures ∙ c.if2.true)
 
 returns-3 : tie.Need-returns-3
 unfolding word_of text
@@ -21,7 +21,7 @@ returns-3 c =
     let q = c.before.before.before in
     let p = q.before.before.before in
     simp (
-      sym p.before.is_IsWord.ensures ∙ p.if1.false,
+      sym p.before.is_Is_word.ensures ∙ p.if1.false,
       sym q.before.is-word2.ensures ∙ q.if2.false,
       sym c.before.is-word3.ensures ∙ c.if3.true,
     )
@@ -32,7 +32,7 @@ returns-4 c =
     let q = c.before.before.before in
     let p = q.before.before.before in
     simp (
-      sym p.before.is_IsWord.ensures ∙ p.if1.false,
+      sym p.before.is_Is_word.ensures ∙ p.if1.false,
       sym q.before.is-word2.ensures ∙ q.if2.false,
       sym c.before.is-word3.ensures ∙ c.if3.false,
     )

@@ -1,13 +1,13 @@
 -- The length first, and then all that is asked of the bytes. Assumes nothing.
 use Rattle.octets.proofs.Proving.{[], ◌∷◌, answered, arith, eqb, needs, unasked}
 use Rattle.octets.specs.Choice.{all_below}
-use Rattle.octets.specs.Bytes.{part, allAre, whole_at}
+use Rattle.octets.specs.Bytes.{part, all_are, whole_at}
 use Rattle.octets.proofs.Below.{in-row}
-use Rattle.header.specs.Limits.{sumPlace}
-use Rattle.header.specs.Sound.{headerSound}
-use Rattle.orders.specs.Sound.{recordSound}
-use Rattle.table.specs.Table.{recordBytes}
-use Rattle.convert.specs.Old.{oldForm, oldRecords, oldUsed, renewed, oldSound}
+use Rattle.header.specs.Limits.{sum_place}
+use Rattle.header.specs.Sound.{header_sound}
+use Rattle.orders.specs.Sound.{record_sound}
+use Rattle.table.specs.Table.{record_bytes}
+use Rattle.convert.specs.Old.{old_form, old_records, old_used, renewed, old_sound}
 use Rattle.convert.proofs.Former.{old-there}
 use Rattle.convert.proofs.old.old_sound.Statement.{statement}
 use Rattle.convert.proofs.old.old_sound.Tie as tie
@@ -27,16 +27,16 @@ records-sound-requires c κs =
     answered sized.before.size-good.ensures sized.if1.true
 
 returns : tie.Need-returns
-unfolding oldSound
+unfolding old_sound
 returns c =
     let byte = c.before.before.before.before.before in
     let sized = byte.before.before in
     let old = sized.before.before.before.args.old.now in
     rw (answered sized.before.size-good.ensures sized.if1.true, c.records-sound.ensures, c.before.are-zero.ensures, c.before.before.header-sound.ensures, c.before.before.before.old-records.ensures, byte.byte_at.ensures, byte.before.renewed.ensures)
-    (in-row (eqb (whole_at old 2 1) oldForm) (headerSound (renewed old) (oldRecords old) ∷ allAre 0 (part old sumPlace 4) ∷ all_below (oldUsed old) (λ i. recordSound (recordBytes old i)) ∷ []))
+    (in-row (eqb (whole_at old 2 1) old_form) (header_sound (renewed old) (old_records old) ∷ all_are 0 (part old sum_place 4) ∷ all_below (old_used old) (λ i. record_sound (record_bytes old i)) ∷ []))
 
 returns-2 : tie.Need-returns-2
-unfolding oldSound
+unfolding old_sound
 returns-2 c = rw (answered c.before.size-good.ensures c.if1.false) cc
 
 pub old-sound-spec : {M : Type 1} → statement M

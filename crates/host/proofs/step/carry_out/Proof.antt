@@ -1,6 +1,6 @@
 -- Blocked where there is no room, and else all is written. Assumes nothing.
 use Rattle.octets.proofs.Proving.{needs, unasked}
-use Rattle.outbox.specs.Outbox.{freeBytes}
+use Rattle.outbox.specs.Outbox.{free_bytes}
 use Rattle.outbox.proofs.Right.{right}
 use Rattle.host.specs.Step.{world}
 use Rattle.host.proofs.Offers.{blocked-leaves, done-leaves, fits}
@@ -8,7 +8,7 @@ use Rattle.host.proofs.step.carry_out.Statement.{statement}
 use Rattle.host.proofs.step.carry_out.Tie as tie
 
 returns : tie.Need-returns
-unfolding freeBytes
+unfolding free_bytes
 returns c =
     let start = c.before.before.before.before.before.before.before in
     let sent = c.before.before.before.message.ensures in
@@ -21,7 +21,7 @@ set-if-requires : tie.Need-set-if-requires
 set-if-requires c κs = let free = c.before.before.before.before.before.before in free.before.before.before.before.before.before.before.requires.1.0
 
 append-front-requires : tie.Need-append-front-requires
-unfolding freeBytes
+unfolding free_bytes
 append-front-requires c κs =
     let set = c.before.before.before.before in
     let free = set.before.before.before.before.before.before.before in
@@ -29,7 +29,7 @@ append-front-requires c κs =
     (free.before.before.before.before.before.before.before.requires.0, (free.if1.false, fits _ sent))
 
 returns-2 : tie.Need-returns-2
-unfolding freeBytes
+unfolding free_bytes
 returns-2 c =
     let set = c.before.before.before.before.before.before.before in
     let stored = set.before.before.before.before in

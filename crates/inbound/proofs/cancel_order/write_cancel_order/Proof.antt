@@ -1,10 +1,10 @@
 -- The fields are put one by one, in the layout's order, and what is sent is what was spelled. Assumes nothing.
-use Rattle.inbound.proofs.Codec.{unasked, needs, ◌then◌, ends, spelled, written, cancelOrderBytes}
+use Rattle.inbound.proofs.Codec.{unasked, needs, ◌then◌, ends, spelled, written, cancel_order_bytes}
 use Rattle.inbound.proofs.cancel_order.write_cancel_order.Statement.{statement}
 use Rattle.inbound.proofs.cancel_order.write_cancel_order.Tie as tie
 
 returns : tie.Need-returns
-unfolding cancelOrderBytes
+unfolding cancel_order_bytes
 returns c =
     let sent = c.before.before in
     let size = sent.before.before in

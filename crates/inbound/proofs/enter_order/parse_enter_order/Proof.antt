@@ -1,10 +1,10 @@
 -- Each field is what its leaf reads at its offset. Assumes nothing.
-use Rattle.inbound.proofs.Codec.{needs, enterOrderOf}
+use Rattle.inbound.proofs.Codec.{needs, enter_order_of}
 use Rattle.inbound.proofs.enter_order.parse_enter_order.Statement.{statement}
 use Rattle.inbound.proofs.enter_order.parse_enter_order.Tie as tie
 
 returns : tie.Need-returns
-unfolding enterOrderOf
+unfolding enter_order_of
 returns c =
     let stock = c.before.before.before.before.before.before.before.before in
     rw (c.byte-at5.ensures, c.before.be324.ensures, c.before.before.byte-at4.ensures)

@@ -1,10 +1,10 @@
 -- The fields are put one by one, in the layout's order, and what is sent is what was spelled. Assumes nothing.
-use Rattle.inbound.proofs.Codec.{unasked, needs, ◌then◌, ends, spelled, written, enterOrderBytes}
+use Rattle.inbound.proofs.Codec.{unasked, needs, ◌then◌, ends, spelled, written, enter_order_bytes}
 use Rattle.inbound.proofs.enter_order.write_enter_order.Statement.{statement}
 use Rattle.inbound.proofs.enter_order.write_enter_order.Tie as tie
 
 returns : tie.Need-returns
-unfolding enterOrderBytes
+unfolding enter_order_bytes
 returns c =
     let sent = c.before.before in
     let cross = sent.before.before in

@@ -1,10 +1,10 @@
 -- The fields are put one by one, in the layout's order, and what is sent is what was spelled. Assumes nothing.
-use Rattle.inbound.proofs.Codec.{unasked, needs, ◌then◌, ends, spelled, written, modifyOrderBytes}
+use Rattle.inbound.proofs.Codec.{unasked, needs, ◌then◌, ends, spelled, written, modify_order_bytes}
 use Rattle.inbound.proofs.modify_order.write_modify_order.Statement.{statement}
 use Rattle.inbound.proofs.modify_order.write_modify_order.Tie as tie
 
 returns : tie.Need-returns
-unfolding modifyOrderBytes
+unfolding modify_order_bytes
 returns c =
     let sent = c.before.before in
     let shares = sent.before.before in

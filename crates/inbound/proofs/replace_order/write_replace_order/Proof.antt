@@ -1,10 +1,10 @@
 -- The fields are put one by one, in the layout's order, and what is sent is what was spelled. Assumes nothing.
-use Rattle.inbound.proofs.Codec.{unasked, needs, ◌then◌, ends, spelled, written, replaceOrderBytes}
+use Rattle.inbound.proofs.Codec.{unasked, needs, ◌then◌, ends, spelled, written, replace_order_bytes}
 use Rattle.inbound.proofs.replace_order.write_replace_order.Statement.{statement}
 use Rattle.inbound.proofs.replace_order.write_replace_order.Tie as tie
 
 returns : tie.Need-returns
-unfolding replaceOrderBytes
+unfolding replace_order_bytes
 returns c =
     let sent = c.before.before in
     let minimum = sent.before.before in

@@ -1,17 +1,17 @@
 -- One cell more is said at each turn. Assumes nothing.
 use Rattle.octets.proofs.Proving.{◌-◌, ◌∙◌, ◌≡◌, ◌≤◌, add-one, arith, needs, sym, unasked}
 use Rattle.listing.specs.Lines.{Says}
-use Rattle.listing.specs.Drawing.{cells, cellCount}
+use Rattle.listing.specs.Drawing.{cells, cell_count}
 use Rattle.listing.proofs.Growing.{says_on}
 use Rattle.listing.proofs.Places.{length-cells}
 use Rattle.listing.proofs.drawing.cells.Statement.{statement}
 use Rattle.listing.proofs.drawing.cells.Tie as tie
 
 abbrev invariant-loop : tie.invariant-loop
-invariant-loop size at held drawn₀ k₀ drawn k = (k ≤ cellCount) × Says drawn (cells size at held k)
+invariant-loop size at held drawn₀ k₀ drawn k = (k ≤ cell_count) × Says drawn (cells size at held k)
 
 abbrev decreases-loop : tie.decreases-loop
-decreases-loop size at held drawn₀ k₀ drawn k = cellCount - k
+decreases-loop size at held drawn₀ k₀ drawn k = cell_count - k
 
 loop-holds : tie.Need-loop-init invariant-loop decreases-loop
 unfolding cells
@@ -31,7 +31,7 @@ loop-again c =
 
 returns : tie.Need-returns invariant-loop decreases-loop
 returns c =
-    let all : c.before.loop.k ≡ cellCount = omega arith in
+    let all : c.before.loop.k ≡ cell_count = omega arith in
     let s = c.before.loop.invariant.1 in
     let a = c.before.before.before.args in
     (rw (sym all) s, s.long ∙ length-cells a.size a.at a.held c.before.loop.k ∙ all)

@@ -2,13 +2,13 @@
 use Rattle.octets.proofs.Proving.{append_assoc, arith, needs, unasked}
 use Rattle.octets.specs.Choice.{text}
 use Rattle.octets.specs.Bytes.{joined}
-use Rattle.listing.specs.Lines.{lastLine}
+use Rattle.listing.specs.Lines.{last_line}
 use Rattle.listing.proofs.Growing.{says_on, shown}
 use Rattle.listing.proofs.lines.last_line.Statement.{statement}
 use Rattle.listing.proofs.lines.last_line.Tie as tie
 
 returns : tie.Need-returns
-unfolding lastLine joined text
+unfolding last_line joined text
 returns c =
     let end = c.said.ensures in
     let sent = c.before.before.named2.ensures in

@@ -1,18 +1,18 @@
 -- The plan where the checks come to Done, and else the refusal. Assumes nothing.
 use Rattle.octets.proofs.Needs.{unasked}
-use Rattle.market.specs.Cross.{crossDoneRule}
+use Rattle.market.specs.Cross.{cross_done_rule}
 use Rattle.rules.proofs.Allowed.{allowed-done, allowed-refused}
 use Rattle.market.proofs.cross.cross_done.Statement.{statement}
 use Rattle.market.proofs.cross.cross_done.Tie as tie
 
 returns : tie.Need-returns
-unfolding crossDoneRule
+unfolding cross_done_rule
 returns c =
     let p = c.before.before in
     allowed-done p.is-done.ensures c.before.if1.true (cc) (cc)
 
 returns-2 : tie.Need-returns-2
-unfolding crossDoneRule
+unfolding cross_done_rule
 returns-2 c = allowed-refused _ c.before.before.is-done.ensures c.before.if1.false (cc) c.refused.ensures
 
 pub cross-done-spec : {M : Type 1} → statement M

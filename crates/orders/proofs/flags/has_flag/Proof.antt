@@ -1,12 +1,12 @@
 -- One of the three bits is not 0, so it divides. Assumes nothing.
 use Rattle.octets.proofs.Proving.{arith, unasked}
-use Rattle.orders.specs.Flags.{hasFlag}
+use Rattle.orders.specs.Flags.{has_flag}
 use Rattle.orders.proofs.Bits.{bit-positive}
 use Rattle.orders.proofs.flags.has_flag.Statement.{statement}
 use Rattle.orders.proofs.flags.has_flag.Tie as tie
 
 returns : tie.Need-returns
-unfolding hasFlag
+unfolding has_flag
 returns c = rw c.bit-of.ensures
 
 pub has-flag-spec : {M : Type 1} → statement M

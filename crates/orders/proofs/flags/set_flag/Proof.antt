@@ -1,12 +1,12 @@
 -- A bit that is not set leaves room for itself in a byte. Assumes nothing.
 use Rattle.octets.proofs.Proving.{answered, arith, unasked}
-use Rattle.orders.specs.Flags.{hasFlag, setFlag}
+use Rattle.orders.specs.Flags.{has_flag, set_flag}
 use Rattle.orders.proofs.Bits.{set-fits}
 use Rattle.orders.proofs.flags.set_flag.Statement.{statement}
 use Rattle.orders.proofs.flags.set_flag.Tie as tie
 
 returns : tie.Need-returns
-unfolding setFlag
+unfolding set_flag
 returns c = rw (answered c.before.has-flag.ensures c.if1.true)
 
 add-result : tie.Need-overflow-add-result
@@ -16,7 +16,7 @@ add-result c =
     rw c.bit-of.ensures (omega (arith, set-fits start.args.flags start.args.flag (omega arith) off))
 
 returns-2 : tie.Need-returns-2
-unfolding setFlag
+unfolding set_flag
 returns-2 c = rw (answered c.before.before.has-flag.ensures c.before.if1.false, c.bit-of.ensures)
 
 pub set-flag-spec : {M : Type 1} → statement M

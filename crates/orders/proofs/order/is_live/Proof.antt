@@ -1,11 +1,11 @@
 -- The test is the definition.
 use mathlib.Core.Path.{refl}
-use Rattle.orders.specs.Order.{isLive}
+use Rattle.orders.specs.Order.{is_live}
 use Rattle.orders.proofs.order.is_live.Statement.{statement}
 use Rattle.orders.proofs.order.is_live.Tie as tie
 
 returns : tie.Need-returns
-unfolding isLive
+unfolding is_live
 returns c = refl
 
 pub is-live-spec : {M : Type 1} → statement M

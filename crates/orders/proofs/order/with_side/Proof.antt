@@ -1,11 +1,11 @@
 -- Field by field.
 use mathlib.Core.Path.{refl}
-use Rattle.orders.specs.Order.{withSide}
+use Rattle.orders.specs.Order.{with_side}
 use Rattle.orders.proofs.order.with_side.Statement.{statement}
 use Rattle.orders.proofs.order.with_side.Tie as tie
 
 returns : tie.Need-returns
-unfolding withSide
+unfolding with_side
 returns c = refl
 
 pub with-side-spec : {M : Type 1} → statement M

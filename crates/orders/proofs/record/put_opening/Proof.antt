@@ -3,7 +3,7 @@ use Rattle.octets.proofs.Proving.{arith, needs, refl}
 use Rattle.wire.specs.Layout.{unbroken}
 use Rattle.wire.specs.Layout.{◌then◌, ends}
 use Rattle.wire.proofs.Puts.{puts-at}
-use Rattle.orders.specs.Runs.{openingFields, openingValues, opening}
+use Rattle.orders.specs.Runs.{opening_fields, opening_values, opening}
 use Rattle.orders.proofs.record.put_opening.Statement.{statement}
 use Rattle.orders.proofs.record.put_opening.Tie as tie
 
@@ -17,7 +17,7 @@ returns c =
     let p2 = p3.before.before.before.before in
     let p1 = p2.before.before.before.before in
     let start = p1.before.before.before.before.before in
-    let put = puts-at openingFields (openingValues start.args.o) start.args.s.now
+    let put = puts-at opening_fields (opening_values start.args.o) start.args.s.now
     (p1.put_byte.ensures then p2.put-bytes14.ensures then p3.put-byte2.ensures then p4.put-be32.ensures then p5.put-be322.ensures then p6.put-be323.ensures then ends)
     0 28 refl (omega (arith, start.requires)) in
     (put.0, omega (arith, put.1))

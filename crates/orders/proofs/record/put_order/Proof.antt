@@ -1,7 +1,7 @@
 -- Each run is put right behind the last one, and together they are the whole. Assumes nothing.
 use Rattle.octets.proofs.Proving.{List, [], ◌∙◌, ◌∷◌, ap, arith, length, needs, refl}
 use Rattle.octets.proofs.Laws.{put_whole}
-use Rattle.wire.specs.Layout.{Field, ◌&◌, unbroken, textAt}
+use Rattle.wire.specs.Layout.{Field, ◌&◌, unbroken, text_at}
 use Rattle.wire.specs.Layout.{◌then◌, ends}
 use Rattle.wire.proofs.Puts.{puts-at}
 use Rattle.orders.specs.Runs.{opening, traded, letters, ending}
@@ -11,7 +11,7 @@ use Rattle.orders.proofs.record.put_order.Tie as tie
 
 -- the runs as fields of bytes
 abbrev runs : List Field
-runs = textAt 0 28 ∷ textAt 28 20 ∷ textAt 48 8 ∷ textAt 56 24 ∷ []
+runs = text_at 0 28 ∷ text_at 28 20 ∷ text_at 48 8 ∷ text_at 56 24 ∷ []
 
 returns : tie.Need-returns
 unfolding unbroken

@@ -1,10 +1,10 @@
 -- The answer is the judge's, and the fields are those of what it let through. Assumes nothing.
-use Rattle.outbound.proofs.Codec.{unasked, needs, acceptedOf, statedOf}
+use Rattle.outbound.proofs.Codec.{unasked, needs, accepted_of, stated_of}
 use Rattle.outbound.proofs.accepted.read_accepted.Statement.{statement}
 use Rattle.outbound.proofs.accepted.read_accepted.Tie as tie
 
 returns : tie.Need-returns
-unfolding acceptedOf statedOf
+unfolding accepted_of stated_of
 returns c = rw (c.byte_at.ensures, c.before.parse-stated.ensures, c.before.before.bytes14-at.ensures)
     (rw (c.before.before.before.be64.ensures, c.before.before.before.before.legal-or-zeros.ensures.0)
     (rw c.before.before.before.before.before.before.judge.ensures))

@@ -1,10 +1,10 @@
 -- The answer is the judge's, and the fields are those of what it let through. Assumes nothing.
-use Rattle.outbound.proofs.Codec.{unasked, needs, aiqCancelledOf}
+use Rattle.outbound.proofs.Codec.{unasked, needs, aiq_cancelled_of}
 use Rattle.outbound.proofs.aiq_cancelled.read_aiq_cancelled.Statement.{statement}
 use Rattle.outbound.proofs.aiq_cancelled.read_aiq_cancelled.Tie as tie
 
 returns : tie.Need-returns
-unfolding aiqCancelledOf
+unfolding aiq_cancelled_of
 returns c =
     let legal = c.before.before.before.before.before.before.before in
     rw (c.byte-at2.ensures, c.before.be323.ensures, c.before.before.be322.ensures, c.before.before.before.byte_at.ensures)

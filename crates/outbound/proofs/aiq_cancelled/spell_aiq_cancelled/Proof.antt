@@ -1,10 +1,10 @@
 -- The fields are put one by one, in the layout's order. Assumes nothing.
-use Rattle.outbound.proofs.Codec.{unasked, needs, refl, ◌then◌, ends, spelled, aiqCancelledBytes}
+use Rattle.outbound.proofs.Codec.{unasked, needs, refl, ◌then◌, ends, spelled, aiq_cancelled_bytes}
 use Rattle.outbound.proofs.aiq_cancelled.spell_aiq_cancelled.Statement.{statement}
 use Rattle.outbound.proofs.aiq_cancelled.spell_aiq_cancelled.Tie as tie
 
 returns : tie.Need-returns
-unfolding aiqCancelledBytes
+unfolding aiq_cancelled_bytes
 returns c =
     let reason = c.before.before.before.before.before.before in
     spelled 8 tt refl (refl then reason.before.before.before.before.headed.ensures then reason.before.before.put-integer.ensures

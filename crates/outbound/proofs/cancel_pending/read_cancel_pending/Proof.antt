@@ -1,10 +1,10 @@
 -- The answer is the judge's, and the fields are those of what it let through. Assumes nothing.
-use Rattle.outbound.proofs.Codec.{unasked, needs, cancelPendingOf}
+use Rattle.outbound.proofs.Codec.{unasked, needs, cancel_pending_of}
 use Rattle.outbound.proofs.cancel_pending.read_cancel_pending.Statement.{statement}
 use Rattle.outbound.proofs.cancel_pending.read_cancel_pending.Tie as tie
 
 returns : tie.Need-returns
-unfolding cancelPendingOf
+unfolding cancel_pending_of
 returns c = rw (c.bytes14-at.ensures, c.before.be64.ensures, c.before.before.legal-or-zeros.ensures.0)
     (rw c.before.before.before.before.judge.ensures)
 

@@ -1,10 +1,10 @@
 -- The fields are put one by one, in the layout's order. Assumes nothing.
-use Rattle.outbound.proofs.Codec.{unasked, needs, refl, ◌then◌, ends, spelled, canceledBytes}
+use Rattle.outbound.proofs.Codec.{unasked, needs, refl, ◌then◌, ends, spelled, canceled_bytes}
 use Rattle.outbound.proofs.canceled.spell_canceled.Statement.{statement}
 use Rattle.outbound.proofs.canceled.spell_canceled.Tie as tie
 
 returns : tie.Need-returns
-unfolding canceledBytes
+unfolding canceled_bytes
 returns c = spelled 7 tt refl (refl then c.before.before.before.before.headed.ensures then c.before.before.put-integer.ensures
     then c.put-letter.ensures then ends)
 

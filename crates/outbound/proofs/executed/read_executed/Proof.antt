@@ -1,10 +1,10 @@
 -- The answer is the judge's, and the fields are those of what it let through. Assumes nothing.
-use Rattle.outbound.proofs.Codec.{unasked, needs, executedOf}
+use Rattle.outbound.proofs.Codec.{unasked, needs, executed_of}
 use Rattle.outbound.proofs.executed.read_executed.Statement.{statement}
 use Rattle.outbound.proofs.executed.read_executed.Tie as tie
 
 returns : tie.Need-returns
-unfolding executedOf
+unfolding executed_of
 returns c = rw (c.be642.ensures, c.before.byte_at.ensures, c.before.before.be322.ensures)
     (rw (c.before.before.before.be32.ensures, c.before.before.before.before.bytes14-at.ensures)
     (rw c.before.before.before.before.before.be64.ensures

@@ -1,10 +1,10 @@
 -- The answer is the judge's, and the fields are those of what it let through. Assumes nothing.
-use Rattle.outbound.proofs.Codec.{unasked, needs, priorityUpdateOf}
+use Rattle.outbound.proofs.Codec.{unasked, needs, priority_update_of}
 use Rattle.outbound.proofs.priority_update.read_priority_update.Statement.{statement}
 use Rattle.outbound.proofs.priority_update.read_priority_update.Tie as tie
 
 returns : tie.Need-returns
-unfolding priorityUpdateOf
+unfolding priority_update_of
 returns c = rw (c.be642.ensures, c.before.byte_at.ensures, c.before.before.be32.ensures)
     (rw (c.before.before.before.bytes14-at.ensures, c.before.before.before.before.be64.ensures)
     (rw c.before.before.before.before.before.legal-or-zeros.ensures.0

@@ -1,10 +1,10 @@
 -- The answer is the judge's, and the fields are those of what it let through. Assumes nothing.
-use Rattle.outbound.proofs.Codec.{unasked, needs, rejectedOf}
+use Rattle.outbound.proofs.Codec.{unasked, needs, rejected_of}
 use Rattle.outbound.proofs.rejected.read_rejected.Statement.{statement}
 use Rattle.outbound.proofs.rejected.read_rejected.Tie as tie
 
 returns : tie.Need-returns
-unfolding rejectedOf
+unfolding rejected_of
 returns c = rw (c.byte_at.ensures, c.before.bytes14-at.ensures, c.before.before.be64.ensures)
     (rw (c.before.before.before.legal-or-zeros.ensures.0, c.before.before.before.before.before.judge.ensures))
 

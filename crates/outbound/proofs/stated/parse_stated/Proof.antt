@@ -1,10 +1,10 @@
 -- Each field is what its leaf reads at its offset. Assumes nothing.
-use Rattle.outbound.proofs.Codec.{needs, statedOf}
+use Rattle.outbound.proofs.Codec.{needs, stated_of}
 use Rattle.outbound.proofs.stated.parse_stated.Statement.{statement}
 use Rattle.outbound.proofs.stated.parse_stated.Tie as tie
 
 returns : tie.Need-returns
-unfolding statedOf
+unfolding stated_of
 returns state =
     let firm = state.before.before.before.before.before.before.before in
     rw (state.byte-at6.ensures, state.before.byte-at5.ensures, state.before.before.be324.ensures)

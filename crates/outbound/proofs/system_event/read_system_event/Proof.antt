@@ -1,10 +1,10 @@
 -- The answer is the judge's, and the fields are those of what it let through. Assumes nothing.
-use Rattle.outbound.proofs.Codec.{unasked, needs, systemEventOf}
+use Rattle.outbound.proofs.Codec.{unasked, needs, system_event_of}
 use Rattle.outbound.proofs.system_event.read_system_event.Statement.{statement}
 use Rattle.outbound.proofs.system_event.read_system_event.Tie as tie
 
 returns : tie.Need-returns
-unfolding systemEventOf
+unfolding system_event_of
 returns c = rw (c.byte_at.ensures, c.before.be64.ensures, c.before.before.legal-or-zeros.ensures.0)
     (rw c.before.before.before.before.judge.ensures)
 

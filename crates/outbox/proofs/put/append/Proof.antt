@@ -1,7 +1,7 @@
 -- The place behind the held bytes is computed once; a put is the two runs from there on. Assumes nothing.
 use Rattle.octets.proofs.Proving.{◌+◌, ◌<◌, ◌∙◌, ap, arith, length, needs, refl, sym, unasked, ℕ}
-use Rattle.outbox.specs.Outbox.{marksWith, freeBytes}
-use Rattle.outbox.specs.Runs.{inTwoRuns}
+use Rattle.outbox.specs.Outbox.{marks_with, free_bytes}
+use Rattle.outbox.specs.Runs.{in_two_runs}
 use Rattle.outbox.proofs.Right.{right}
 use Rattle.outbox.proofs.Ring.{around-below}
 use Rattle.outbox.proofs.With.{fits-free}
@@ -17,22 +17,22 @@ place c =
     rw c.around.ensures (around-below (length s.args.ring.now) (s.args.marks.at + s.args.marks.held) (omega arith))
 
 copy-around-requires : tie.Need-copy-around-requires
-unfolding freeBytes
+unfolding free_bytes
 copy-around-requires c κs = (omega (arith, place c.before), omega (arith, c.before.before.before.before.requires.1))
 
 add-t8 : tie.Need-overflow-add-t8
-unfolding freeBytes
+unfolding free_bytes
 add-t8 c = let s = c.before.before.before.before.before.before.before in omega (arith, right _ _ s.requires.0, s.requires.1)
 
 returns : tie.Need-returns
-unfolding marksWith
+unfolding marks_with
 returns c =
     let s = c.before.before.before.before.before.before.before in
     let ring = s.args.ring.now in
     let message = s.args.message.now in (
       refl,
       c.before.before.copy-around.ensures
-          ∙ ap (λ (p : ℕ). inTwoRuns ring p message) c.before.before.before.before.around.ensures
+          ∙ ap (λ (p : ℕ). in_two_runs ring p message) c.before.before.before.before.around.ensures
           ∙ sym (two_runs ring s.args.marks message (fits-free ring s.args.marks message s.requires.0 s.requires.1)),
     )
 

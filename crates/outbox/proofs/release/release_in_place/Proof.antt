@@ -37,7 +37,7 @@ use denote.Triple.Table.{entered, cited}
 use denote.Triple.Walked.{says, Stays, stay_ref, stay_none, walk_of, AllGo, Goes-none, Goes-ref, Walks, ends_at, walked, walk_Meets}
 use denote.Triple.Clauses.{Ended, Clauses, AtExit, at_exit, ensured, lasts}
 use denote.Exit.{yes}
-use Rattle.outbox.specs.Outbox.{releaseAnswer, releaseMarks}
+use Rattle.outbox.specs.Outbox.{release_answer, release_marks}
 use Rattle.outbox.specs.declared.marks.Marks.{Marks}
 use Rattle.outbox.specs.contracts.marks.Marks as T
 use Rattle.outbox.proofs.marks.Marks.TheLaws as T'
@@ -92,7 +92,7 @@ module _ {M : Type 1} {𝓤 : Ura M} (𝓛 : Logic 𝓤) (at_mem : Memory → SP
   abbrev Post : Val → SProp 𝓤
   Post = (walk_of 𝓛 this.ended stayed (this.clauses 𝓛 at_mem run)).post (((κ, tt), (q, tt), tt, x, at), tt)
 
-  exits : (a : Answer) (va : Val) (r : Marks) → a ≡ releaseAnswer n h k → r ≡ releaseMarks n h k → n < 2 ^ 64 → k < 2 ^ 64
+  exits : (a : Answer) (va : Val) (r : Marks) → a ≡ release_answer n h k → r ≡ release_marks n h k → n < 2 ^ 64 → k < 2 ^ 64
       → ent 𝓤 (sep 𝓤 (A.obs γ ((T.the_row).coded.code r)) (sep 𝓤 (A.bor κ (Body (mem (T.the_row)) b o γ)) (sep 𝓤 (A.lft κ q) (sem 𝓛 ((U.the_row).own_val a (va ∷ [])))))) (Post va)
   exits a va r ea er gn gk =
       qed 𝓛 (‵ (fobs γ ((T.the_row).coded.code r)) ∷ ‵ (fbor κ (Body (mem (T.the_row)) b o γ)) ∷ ‵ (flft κ q) ∷ ‵ ((U.the_row).own_val a (va ∷ [])) ∷ []) ∵
@@ -131,7 +131,7 @@ module _ {M : Type 1} {𝓤 : Ura M} (𝓛 : Logic 𝓤) (at_mem : Memory → SP
         owned ! u64 (Is u64) (uint_Makes 𝓛 w64) n (vint w64 n ∷ []) gn $ fjoin ! $ nothing ! $ use2 𝓛 (raw ((Answers 𝓛 at_mem run).pre ((tt, tt, tt, passed, passed-at), tt))) enters $
         calls_at ! fm (Answers 𝓛 at_mem run) known-answer ((tt, tt, tt, passed, passed-at), tt) (and_then ! (load ! (from ! (stop !)) (look ! 16 refl)) (and_then ! (load ! (from ! (stop !)) (look ! 8 refl)) (and_then ! (load ! (from ! (stop !)) (look ! 12 refl)) (no_more !)))) (λ va.
         use1 𝓛 (later (some (λ (a : Answer). (‵ ftrue ⊛ ‵ ((U.the_row).own_val a (va ∷ []))) ⊛ raw (ensured 𝓛 answer.ended (answer.clauses 𝓛 at_mem run) tt passed tt a)))) (id⊢ 𝓤 _) $ await ! tt $ pick ! (λ a.
-        split ! $ move ! (1 ∷ []) $ use1 𝓛 (raw (fact 𝓤 (a ≡ releaseAnswer n h k))) (heard-of 𝓛 at_mem run answer.ended (answer.clauses 𝓛 at_mem run) tt passed tt a (a ≡ releaseAnswer n h k) (λ e. id⊢ 𝓤 _)) $ heard ! (a ≡ releaseAnswer n h k) (λ ea. split ! $ drop ! $
+        split ! $ move ! (1 ∷ []) $ use1 𝓛 (raw (fact 𝓤 (a ≡ release_answer n h k))) (heard-of 𝓛 at_mem run answer.ended (answer.clauses 𝓛 at_mem run) tt passed tt a (a ≡ release_answer n h k) (λ e. id⊢ 𝓤 _)) $ heard ! (a ≡ release_answer n h k) (λ ea. split ! $ drop ! $
         peeks ! U.the_row (Is U.the_row) (shows 𝓛 U.the_row) a (va ∷ []) (λ isa.
         land ! (from ! (stop !)) (init ! 10 refl ((EL.lawful U.the_type U'.the_laws 𝓛 tt).typed a _ isa).0) $
         -- [what a owns; the struct's cell; what h owns; the open borrow; obs; auth; _6; …]
@@ -140,7 +140,7 @@ module _ {M : Type 1} {𝓤 : Ura M} (𝓛 : Logic 𝓤) (at_mem : Memory → SP
         owned ! u64 (Is u64) (uint_Makes 𝓛 w64) n (vint w64 n ∷ []) gn $ fjoin ! $ nothing ! $ use2 𝓛 (raw ((Leaves 𝓛 at_mem run).pre ((tt, tt, tt, passed, passed-at), tt))) enters $
         calls_at ! fm (Leaves 𝓛 at_mem run) known-marks ((tt, tt, tt, passed, passed-at), tt) (and_then ! (load ! (from ! (stop !)) (look ! 17 refl)) (and_then ! (load ! (from ! (stop !)) (look ! 7 refl)) (and_then ! (load ! (from ! (stop !)) (look ! 13 refl)) (no_more !)))) (λ v.
         use1 𝓛 (later (some (λ (r : Marks). (‵ ftrue ⊛ ‵ ((T.the_row).own_val r (v ∷ []))) ⊛ raw (ensured 𝓛 left.ended (left.clauses 𝓛 at_mem run) tt passed tt r)))) (id⊢ 𝓤 _) $ await ! tt $ pick ! (λ r.
-        split ! $ move ! (1 ∷ []) $ use1 𝓛 (raw (fact 𝓤 (r ≡ releaseMarks n h k))) (heard-of 𝓛 at_mem run left.ended (left.clauses 𝓛 at_mem run) tt passed tt r (r ≡ releaseMarks n h k) (λ e. id⊢ 𝓤 _)) $ heard ! (r ≡ releaseMarks n h k) (λ er. split ! $ drop ! $
+        split ! $ move ! (1 ∷ []) $ use1 𝓛 (raw (fact 𝓤 (r ≡ release_marks n h k))) (heard-of 𝓛 at_mem run left.ended (left.clauses 𝓛 at_mem run) tt passed tt r (r ≡ release_marks n h k) (λ e. id⊢ 𝓤 _)) $ heard ! (r ≡ release_marks n h k) (λ er. split ! $ drop ! $
         peeks ! T.the_row (Is T.the_row) (shows 𝓛 T.the_row) r (v ∷ []) (λ isr.
         land ! (from ! (stop !)) (store ! 9 refl ((LL.lawful T.the_type T'.the_laws 𝓛).typed r _ isr).0) $
         -- [what r owns; what a owns; the struct's cell; what h owns; the open borrow; obs; auth; _6; …; _5; …; _4; …; _3; …; _2; …; _1; …; room for _0; …]

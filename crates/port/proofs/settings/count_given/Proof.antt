@@ -1,7 +1,7 @@
 -- The count of whole codes, and 0 where they are not whole. Assumes nothing.
 use Rattle.octets.proofs.Proving.{◌%◌, ◌≤◌, arith, eqb, leb, leb-true, length, needs}
 use Rattle.octets.proofs.Below.{both}
-use Rattle.port.specs.Door.{wholeCodes, countGiven}
+use Rattle.port.specs.Door.{whole_codes, count_given}
 use Rattle.port.proofs.settings.count_given.Statement.{statement}
 use Rattle.port.proofs.settings.count_given.Tie as tie
 
@@ -12,11 +12,11 @@ cast-result c =
     omega (arith, few)
 
 returns : tie.Need-returns
-unfolding countGiven wholeCodes
+unfolding count_given whole_codes
 returns c = simp c.if1.true
 
 returns-2 : tie.Need-returns-2
-unfolding countGiven wholeCodes
+unfolding count_given whole_codes
 returns-2 c = simp c.if1.false
 
 pub count-given-spec : {M : Type 1} → statement M

@@ -1,11 +1,11 @@
 -- Place by place. Assumes nothing.
 use borrow.Author.Rules.{rules}
-use Rattle.port.specs.Door.{firmsGiven}
+use Rattle.port.specs.Door.{firms_given}
 use Rattle.port.proofs.settings.firms_given.Statement.{statement}
 use Rattle.port.proofs.settings.firms_given.Tie as tie
 
 returns : tie.Need-returns
-unfolding firmsGiven
+unfolding firms_given
 returns c =
     let third = c.before.before.before in
     rw (

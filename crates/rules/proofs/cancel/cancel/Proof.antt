@@ -1,16 +1,16 @@
 -- Each return is the guard that its tests led to. Assumes nothing.
 use Rattle.octets.proofs.Proving.{answered, unasked}
-use Rattle.rules.specs.Cancel.{cancelRule}
+use Rattle.rules.specs.Cancel.{cancel_rule}
 use Rattle.rules.proofs.Heard.{cancel-smaller}
 use Rattle.rules.proofs.cancel.cancel.Statement.{statement}
 use Rattle.rules.proofs.cancel.cancel.Tie as tie
 
 returns : tie.Need-returns
-unfolding cancelRule
+unfolding cancel_rule
 returns c = rw (answered c.before.before.cancel-ignored.ensures c.before.if1.true) c.refused.ensures
 
 returns-2 : tie.Need-returns-2
-unfolding cancelRule
+unfolding cancel_rule
 returns-2 c =
     let p = c.before.before in
     rw (answered p.before.before.cancel-ignored.ensures p.before.if1.false, answered p.is.ensures c.before.if2.true)
@@ -22,7 +22,7 @@ canceled-order-requires c κs =
     cancel-smaller _ _ (answered p.before.before.cancel-ignored.ensures p.before.if1.false)
 
 returns-3 : tie.Need-returns-3
-unfolding cancelRule
+unfolding cancel_rule
 returns-3 c =
     let p = c.before.before.before.before in
     rw (answered p.before.before.cancel-ignored.ensures p.before.if1.false, answered p.is.ensures c.before.before.before.if2.false) cc

@@ -1,11 +1,11 @@
 -- Test for test. Assumes nothing.
 use Rattle.octets.proofs.Needs.{unasked}
-use Rattle.rules.specs.Cancel.{cancelIgnored}
+use Rattle.rules.specs.Cancel.{cancel_ignored}
 use Rattle.rules.proofs.cancel.cancel_ignored.Statement.{statement}
 use Rattle.rules.proofs.cancel.cancel_ignored.Tie as tie
 
 returns : tie.Need-returns
-unfolding cancelIgnored
+unfolding cancel_ignored
 returns c =
     let p = c.before.before in
     rw (c.is.ensures, c.before.exceeds.ensures, p.new-open.ensures, p.before.is_live.ensures, p.before.before.open-shares.ensures)

@@ -1,11 +1,11 @@
 -- Test for test. Assumes nothing.
 use Rattle.octets.proofs.Needs.{unasked}
-use Rattle.rules.specs.Enter.{badShares}
+use Rattle.rules.specs.Enter.{bad_shares}
 use Rattle.rules.proofs.enter.bad_shares.Statement.{statement}
 use Rattle.rules.proofs.enter.bad_shares.Tie as tie
 
 returns : tie.Need-returns
-unfolding badShares
+unfolding bad_shares
 returns c = cc
 
 pub bad-shares-spec : {M : Type 1} → statement M

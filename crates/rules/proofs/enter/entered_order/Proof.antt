@@ -1,11 +1,11 @@
 -- Each call is what it promises. Assumes nothing.
 use Rattle.octets.proofs.Needs.{unasked}
-use Rattle.rules.specs.Enter.{enteredOrder}
+use Rattle.rules.specs.Enter.{entered_order}
 use Rattle.rules.proofs.enter.entered_order.Statement.{statement}
 use Rattle.rules.proofs.enter.entered_order.Tie as tie
 
 returns : tie.Need-returns
-unfolding enteredOrder
+unfolding entered_order
 returns c = cc
 
 pub entered-order-spec : {M : Type 1} → statement M

@@ -1,11 +1,11 @@
 -- Test for test. Assumes nothing.
 use Rattle.octets.proofs.Needs.{unasked}
-use Rattle.rules.specs.Modify.{sideAllowed}
+use Rattle.rules.specs.Modify.{side_allowed}
 use Rattle.rules.proofs.modify.side_allowed.Statement.{statement}
 use Rattle.rules.proofs.modify.side_allowed.Tie as tie
 
 returns : tie.Need-returns
-unfolding sideAllowed
+unfolding side_allowed
 returns c = cc
 
 pub side-allowed-spec : {M : Type 1} → statement M

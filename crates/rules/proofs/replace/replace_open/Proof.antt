@@ -1,17 +1,17 @@
 -- The price is the last of the details. Assumes nothing.
 use Rattle.octets.proofs.Proving.{answered, needs, unasked}
-use Rattle.rules.specs.Replace.{replaceOpen, badDetails}
-use Rattle.rules.specs.Enter.{badPrice}
+use Rattle.rules.specs.Replace.{replace_open, bad_details}
+use Rattle.rules.specs.Enter.{bad_price}
 use Rattle.rules.proofs.Prices.{made, not_made}
 use Rattle.rules.proofs.replace.replace_open.Statement.{statement}
 use Rattle.rules.proofs.replace.replace_open.Tie as tie
 
 returns : tie.Need-returns
-unfolding replaceOpen badDetails badPrice
+unfolding replace_open bad_details bad_price
 returns c = rw (answered c.before.before.bad-beside-price.ensures c.before.if1.true) c.canceled-whole.ensures
 
 returns-2 : tie.Need-returns-2
-unfolding replaceOpen badDetails badPrice
+unfolding replace_open bad_details bad_price
 returns-2 c =
     let p = c.before.before.before.before.before in
     let n = p.before in
@@ -19,7 +19,7 @@ returns-2 c =
     rw (answered n.before.before.bad-beside-price.ensures n.before.if1.false, m.good, ← m.same) cc
 
 returns-3 : tie.Need-returns-3
-unfolding replaceOpen badDetails badPrice
+unfolding replace_open bad_details bad_price
 returns-3 c =
     let n = c.before.before.before in
     let bad = not_made _ _ n.new.ensures c.before.enum_told.given.1 in

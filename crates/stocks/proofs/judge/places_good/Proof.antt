@@ -2,14 +2,14 @@
 -- Assumes nothing.
 use Rattle.octets.proofs.Proving.{Bool, ◌&&◌, ◌+◌, ◌-◌, ◌<◌, ◌∙◌, ◌≡◌, ◌≤◌, ap, arith, ltb, needs, not-false, not-true, sym, true, ℕ}
 use Rattle.octets.specs.Choice.{all_below}
-use Rattle.stocks.specs.Stocks.{placeGood}
+use Rattle.stocks.specs.Stocks.{place_good}
 use Rattle.stocks.specs.Ranks.{rank_at}
 use Rattle.stocks.proofs.Good.{first-judged, state-fails, orders-fail, pair-passes, last-judged}
 use Rattle.stocks.proofs.judge.places_good.Statement.{statement}
 use Rattle.stocks.proofs.judge.places_good.Tie as tie
 
 abbrev invariant-loop : tie.invariant-loop
-invariant-loop list n last₀ i₀ last i = (0 < i) × (i ≤ n) × (last ≡ rank_at list (i - 1)) × (all_below i (placeGood list) ≡ true)
+invariant-loop list n last₀ i₀ last i = (0 < i) × (i ≤ n) × (last ≡ rank_at list (i - 1)) × (all_below i (place_good list) ≡ true)
 
 abbrev decreases-loop : tie.decreases-loop
 decreases-loop list n last₀ i₀ last i = n - i
@@ -90,7 +90,7 @@ returns-6 c =
     let l = c.before.before.loop in
     let start = c.before.before.before.before.before.before.before in
     let e : start.args.n ≡ l.i = omega (arith, l.invariant.1, c.if5.false) in
-    sym (ap (λ (k : ℕ). all_below k (placeGood start.args.list.now)) e ∙ l.invariant.3)
+    sym (ap (λ (k : ℕ). all_below k (place_good start.args.list.now)) e ∙ l.invariant.3)
 
 pub places-good-spec : {M : Type 1} → statement M
 places-good-spec =

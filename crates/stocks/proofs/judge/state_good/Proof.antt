@@ -1,11 +1,11 @@
 -- The byte behind the symbol. Assumes nothing.
 use Rattle.octets.proofs.Proving.{needs, unasked}
-use Rattle.stocks.specs.Stocks.{stateAt}
+use Rattle.stocks.specs.Stocks.{state_at}
 use Rattle.stocks.proofs.judge.state_good.Statement.{statement}
 use Rattle.stocks.proofs.judge.state_good.Tie as tie
 
 returns : tie.Need-returns
-unfolding stateAt
+unfolding state_at
 returns c = c.is-stock-state.ensures
 
 pub state-good-spec : {M : Type 1} → statement M

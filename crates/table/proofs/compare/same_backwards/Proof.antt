@@ -1,13 +1,13 @@
 -- The first word from the end that differs decides, and where the first two are the same the third does. Assumes nothing.
 use Rattle.octets.proofs.Proving.{◌∙◌, ◌≡◌, ap₂, arith, eq-eqb, eqb, ne_eqb, needs, sym}
-use Rattle.wire.specs.Limits.{tokenSize}
-use Rattle.table.specs.Backwards.{sameBackwards}
+use Rattle.wire.specs.Limits.{token_size}
+use Rattle.table.specs.Backwards.{same_backwards}
 use Rattle.table.proofs.Backwards.{same_words, in_words}
 use Rattle.table.proofs.compare.same_backwards.Statement.{statement}
 use Rattle.table.proofs.compare.same_backwards.Tie as tie
 
 asked : (c : tie.After-shared-slice-known2) → let a = c.before.before.args in
-    sameBackwards tokenSize a.a.now a.b.now ≡ same_words a.a.now a.b.now
+    same_backwards token_size a.a.now a.b.now ≡ same_words a.a.now a.b.now
 asked c =
     let start = c.before.before in
     in_words _ _ (λ k. omega (arith, c.before.shared-slice-known.given k)) (λ k. omega (arith, c.shared-slice-known2.given k))

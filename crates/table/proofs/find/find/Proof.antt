@@ -1,11 +1,11 @@
 -- The first of all used records. Assumes nothing.
 use Rattle.octets.proofs.Proving.{arith, unasked}
-use Rattle.table.specs.Table.{usedIn, place_of}
+use Rattle.table.specs.Table.{used_in, place_of}
 use Rattle.table.proofs.find.find.Statement.{statement}
 use Rattle.table.proofs.find.find.Tie as tie
 
 first-requires : tie.Need-first-requires
-unfolding usedIn
+unfolding used_in
 first-requires c κs = omega (arith, c.used.ensures)
 
 returns : tie.Need-returns

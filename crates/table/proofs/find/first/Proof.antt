@@ -1,12 +1,12 @@
 -- The loop's invariant: the first record with the token is still ahead. The measure is what is left of n.
 use Rattle.octets.proofs.Proving.{◌+◌, ◌-◌, ◌≡◌, ◌≤◌, answered, arith, needs}
 use Rattle.octets.proofs.First.{Ahead, ahead-start, ahead-found, ahead-next, ahead-end}
-use Rattle.table.specs.Table.{recordsIn, hasToken}
+use Rattle.table.specs.Table.{records_in, has_token}
 use Rattle.table.proofs.find.first.Statement.{statement}
 use Rattle.table.proofs.find.first.Tie as tie
 
 abbrev invariant-loop : tie.invariant-loop
-invariant-loop table token n i₀ i = (i ≤ n) × Ahead n (hasToken table token) i
+invariant-loop table token n i₀ i = (i ≤ n) × Ahead n (has_token table token) i
 
 abbrev decreases-loop : tie.decreases-loop
 decreases-loop table token n i₀ i = n - i
@@ -15,7 +15,7 @@ loop-holds : tie.Need-loop-init invariant-loop decreases-loop
 loop-holds c = (omega arith, ahead-start _ _)
 
 add-loop : tie.Need-overflow-add-loop invariant-loop decreases-loop
-unfolding recordsIn
+unfolding records_in
 add-loop c = omega arith
 
 returns : tie.Need-returns invariant-loop decreases-loop
@@ -25,7 +25,7 @@ returns c =
 
 -- the first of a turn's two records does not have it
 second : (c : tie.Else1 invariant-loop decreases-loop) → let a = c.before.before.before.before.before.args in
-    Ahead a.n (hasToken a.table.now a.token) (c.before.before.before.loop.i + 1)
+    Ahead a.n (has_token a.table.now a.token) (c.before.before.before.loop.i + 1)
 second c =
     let l = c.before.before.before.loop in
     ahead-next _ _ l.i l.invariant.1 (omega arith) (answered c.before.has-token.ensures c.if1.false)

@@ -1,11 +1,11 @@
 -- The first that applies. Assumes nothing.
 use Rattle.octets.proofs.Needs.{unasked}
-use Rattle.table.specs.Fresh.{freshAnswer}
+use Rattle.table.specs.Fresh.{fresh_answer}
 use Rattle.table.proofs.fresh.fresh_answer.Statement.{statement}
 use Rattle.table.proofs.fresh.fresh_answer.Tie as tie
 
 returns : tie.Need-returns
-unfolding freshAnswer
+unfolding fresh_answer
 returns c = cc
 
 pub fresh-answer-spec : {M : Type 1} → statement M

@@ -1,22 +1,22 @@
 -- The loop's invariant: what is left are the bits that were not looked at, and none of the others is of a record that is wanted. The measure is what
 -- is left, as a number. Assumes nothing.
 use Rattle.octets.proofs.Proving.{Bool, List, ◌&&◌, ◌*◌, ◌+◌, ◌<◌, ◌∙◌, ◌≡◌, ◌≤◌, answered, ap, arith, false, get_or, ltb, subst, sym, true, unasked, ℕ}
-use Rattle.octets.specs.Choice.{firstBelow}
+use Rattle.octets.specs.Choice.{first_below}
 use Rattle.octets.specs.Bits.{bit_of}
 use Rattle.octets.proofs.First.{first-within}
-use Rattle.orders.specs.Wanted.{isWanted}
+use Rattle.orders.specs.Wanted.{is_wanted}
 use Rattle.orders.specs.declared.wanted.Wanted.{Wanted}
-use Rattle.table.specs.Table.{order_at, bitBytes, isMarked}
+use Rattle.table.specs.Table.{order_at, bit_bytes, is_marked}
 use Rattle.table.proofs.Stored.{few_bits}
 use Rattle.table.proofs.Eight.{Looking, look-start, lowest-is, look-found, look-fewer, look-next, look_none, among-row}
 use Rattle.table.proofs.search.among_eight.Statement.{statement}
 use Rattle.table.proofs.search.among_eight.Tie as tie
 
 abbrev test : List ℕ → Wanted → ℕ → ℕ → ℕ → Bool
-test t wanted n at j = ltb (8 * at + j) n && isWanted wanted (order_at t (8 * at + j))
+test t wanted n at j = ltb (8 * at + j) n && is_wanted wanted (order_at t (8 * at + j))
 
 abbrev invariant-loop : tie.invariant-loop
-invariant-loop table wanted n at left₀ left = (left₀ ≡ get_or (bitBytes table) at 0) × Looking left₀ (test table wanted n at) left
+invariant-loop table wanted n at left₀ left = (left₀ ≡ get_or (bit_bytes table) at 0) × Looking left₀ (test table wanted n at) left
 
 abbrev decreases-loop : tie.decreases-loop
 decreases-loop table wanted n at left₀ left = left
@@ -43,7 +43,7 @@ wanted-at-requires : tie.Need-wanted-at-requires invariant-loop decreases-loop
 wanted-at-requires c κs = c.before.before.before.before.before.before.requires.0
 
 returns : tie.Need-returns invariant-loop decreases-loop
-unfolding isMarked
+unfolding is_marked
 returns c =
     let start = c.before.before.before.before.before.before.before.before in
     let t = start.args.table.now in
@@ -51,10 +51,10 @@ returns c =
     let l = c.before.before.before.before.loop in
     let k = c.before.before.lowest.ensures in
     let here = test t start.args.wanted start.args.n at in
-    let holds : here (firstBelow 8 (bit_of l.left)) ≡ true = subst (λ (m : ℕ). here m ≡ true) k (answered c.before.wanted-at.ensures c.if1.true) in
+    let holds : here (first_below 8 (bit_of l.left)) ≡ true = subst (λ (m : ℕ). here m ≡ true) k (answered c.before.wanted-at.ensures c.if1.true) in
     ap (λ (m : ℕ). 8 * at + m)
     (k ∙ look-found _ here l.left l.invariant.1 c.before.before.before.loop-test.true holds
-    ∙ ap (λ (b : ℕ). firstBelow 8 (λ j. bit_of b j && here j)) l.invariant.0 ∙ among-row (bitBytes t) at here)
+    ∙ ap (λ (b : ℕ). first_below 8 (λ j. bit_of b j && here j)) l.invariant.0 ∙ among-row (bit_bytes t) at here)
 
 cleared-requires : tie.Need-cleared-requires invariant-loop decreases-loop
 cleared-requires c κs =
@@ -74,7 +74,7 @@ loop-again c =
     let l = turn.loop in
     let k = c.before.before.before.lowest.ensures in
     let here = test start.args.table.now start.args.wanted start.args.n start.args.at in
-    let fails : here (firstBelow 8 (bit_of l.left)) ≡ false = subst (λ (m : ℕ). here m ≡ false) k (answered c.before.before.wanted-at.ensures c.before.if1.false) in
+    let fails : here (first_below 8 (bit_of l.left)) ≡ false = subst (λ (m : ℕ). here m ≡ false) k (answered c.before.before.wanted-at.ensures c.before.if1.false) in
     (l.invariant.0, rw (c.cleared.ensures, k) (look-next _ here l.left l.invariant.1 c.before.before.before.before.loop-test.true fails))
 
 mul-result-2 : tie.Need-overflow-mul-result-2 invariant-loop decreases-loop
@@ -84,7 +84,7 @@ add-result-2 : tie.Need-overflow-add-result-2 invariant-loop decreases-loop
 add-result-2 c = let start = c.before.before.before.before.before in omega (arith, few_bits start.args.table.now, start.requires.1)
 
 returns-2 : tie.Need-returns-2 invariant-loop decreases-loop
-unfolding isMarked
+unfolding is_marked
 returns-2 c =
     let start = c.before.before.before.before.before in
     let t = start.args.table.now in
@@ -92,7 +92,7 @@ returns-2 c =
     let l = c.before.loop in
     let here = test t start.args.wanted start.args.n at in
     ap (λ (m : ℕ). 8 * at + m)
-    (sym (look_none _ here l.left l.invariant.1 c.loop-test.false) ∙ ap (λ (b : ℕ). firstBelow 8 (λ j. bit_of b j && here j)) l.invariant.0 ∙ among-row (bitBytes t) at here)
+    (sym (look_none _ here l.left l.invariant.1 c.loop-test.false) ∙ ap (λ (b : ℕ). first_below 8 (λ j. bit_of b j && here j)) l.invariant.0 ∙ among-row (bit_bytes t) at here)
 
 pub among-eight-spec : {M : Type 1} → statement M
 among-eight-spec =

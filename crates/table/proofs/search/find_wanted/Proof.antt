@@ -2,27 +2,27 @@
 use Rattle.octets.proofs.Proving.{Bool, List, ◌&&◌, ◌*◌, ◌-◌, ◌<◌, ◌∙◌, ◌≡◌, ◌≤◌, ap, arith, false, length, lt-ltb, ltb, ltb-true, needs, sym, unasked, ℕ}
 use Rattle.octets.proofs.Below.{both}
 use Rattle.octets.proofs.First.{first-only, none_only}
-use Rattle.orders.specs.Wanted.{isWanted}
+use Rattle.orders.specs.Wanted.{is_wanted}
 use Rattle.orders.specs.declared.wanted.Wanted.{Wanted}
-use Rattle.table.specs.Table.{usedIn, order_at, bitBytes, isMarked, firstMarked}
+use Rattle.table.specs.Table.{used_in, order_at, bit_bytes, is_marked, first_marked}
 use Rattle.table.proofs.Stored.{used-within, covers, few_bits}
 use Rattle.table.proofs.Eight.{eight-found, eight-none}
 use Rattle.table.proofs.search.find_wanted.Statement.{statement}
 use Rattle.table.proofs.search.find_wanted.Tie as tie
 
 abbrev passes : List ℕ → Wanted → ℕ → ℕ → Bool
-passes t wanted n j = isMarked t j && (ltb j n && isWanted wanted (order_at t j))
+passes t wanted n j = is_marked t j && (ltb j n && is_wanted wanted (order_at t j))
 
 abbrev invariant-loop : tie.invariant-loop
 invariant-loop table wanted n end at₀ at =
-    (n ≡ usedIn table) × (end ≡ length (bitBytes table)) × (at ≤ end) × ((j : ℕ) → j < 8 * at → passes table wanted n j ≡ false)
+    (n ≡ used_in table) × (end ≡ length (bit_bytes table)) × (at ≤ end) × ((j : ℕ) → j < 8 * at → passes table wanted n j ≡ false)
 
 abbrev decreases-loop : tie.decreases-loop
 decreases-loop table wanted n end at₀ at = end - at
 
 -- one of the first n that does not pass is not marked or not wanted
-failing : (t : List ℕ) (wanted : Wanted) (n j : ℕ) → j < n → passes t wanted n j ≡ false → (isMarked t j && isWanted wanted (order_at t j)) ≡ false
-failing t wanted n j l e = ap (λ (b : Bool). isMarked t j && (b && isWanted wanted (order_at t j))) (sym (lt-ltb j n l)) ∙ e
+failing : (t : List ℕ) (wanted : Wanted) (n j : ℕ) → j < n → passes t wanted n j ≡ false → (is_marked t j && is_wanted wanted (order_at t j)) ≡ false
+failing t wanted n j l e = ap (λ (b : Bool). is_marked t j && (b && is_wanted wanted (order_at t j))) (sym (lt-ltb j n l)) ∙ e
 
 loop-holds : tie.Need-loop-init invariant-loop decreases-loop
 loop-holds c = (c.before.used.ensures, ap length c.bit-bytes.ensures, omega arith, λ j l. absurd (omega arith))
@@ -44,7 +44,7 @@ add-if1 c =
     omega (arith, l.invariant.1, few_bits c.before.before.before.before.before.before.args.table.now)
 
 returns : tie.Need-returns invariant-loop decreases-loop
-unfolding firstMarked
+unfolding first_marked
 returns c =
     let start = c.before.before.before.before.before.before.before in
     let l = c.before.before.before.loop in
@@ -53,11 +53,11 @@ returns c =
     let wanted = start.args.wanted in
     let is = c.before.among-eight.ensures in
     let found = eight-found (passes t wanted n) l.at l.invariant.3 (omega (arith, is)) in
-    let marked = both (isMarked t _) _ found.0 in
+    let marked = both (is_marked t _) _ found.0 in
     let first = both (ltb _ n) _ marked.1 in
     let below = ltb-true _ n first.0 in
     is ∙ sym (rw (← l.invariant.0)
-    (first-only (λ i. isMarked t i && isWanted wanted (order_at t i)) n _
+    (first-only (λ i. is_marked t i && is_wanted wanted (order_at t i)) n _
     record { below = below; holds = rw marked.0 first.1; none_before = λ j k. failing t wanted n j (omega (arith, k, below)) (found.1 j k) }))
 
 loop-again : tie.Need-loop-preserved invariant-loop decreases-loop
@@ -68,7 +68,7 @@ loop-again c =
     (l.invariant.0, l.invariant.1, omega arith, eight-none (passes start.args.table.now start.args.wanted n) l.at l.invariant.3 (omega (arith, c.before.among-eight.ensures)))
 
 returns-2 : tie.Need-returns-2 invariant-loop decreases-loop
-unfolding firstMarked
+unfolding first_marked
 returns-2 c =
     let start = c.before.before.before.before.before in
     let l = c.before.loop in
@@ -76,7 +76,7 @@ returns-2 c =
     let t = start.args.table.now in
     let all = covers t n (omega (arith, l.invariant.0, used-within t)) in
     sym (rw (← l.invariant.0)
-    (none_only (λ i. isMarked t i && isWanted start.args.wanted (order_at t i)) n
+    (none_only (λ i. is_marked t i && is_wanted start.args.wanted (order_at t i)) n
     (λ j k. failing t start.args.wanted n j k (l.invariant.3 j (omega (arith, k, all, l.invariant.1))))))
 
 pub find-wanted-spec : {M : Type 1} → statement M

@@ -1,9 +1,9 @@
 -- The walk, and where it finds nothing wrong, the bits and the sum. Assumes nothing.
 use Rattle.octets.proofs.Proving.{Bool, List, ◌∙◌, ◌≡◌, ap, arith, needs, sym, true, unasked, ℕ}
 use Rattle.octets.specs.Choice.{pick, all_below}
-use Rattle.orders.specs.Sound.{recordSound}
-use Rattle.table.specs.Table.{recordBytes, sumBelow, open_at, sumGood}
-use Rattle.table.specs.Walk.{Found, foundIn}
+use Rattle.orders.specs.Sound.{record_sound}
+use Rattle.table.specs.Table.{record_bytes, sum_below, open_at, sum_good}
+use Rattle.table.specs.Walk.{Found, found_in}
 use Rattle.table.proofs.Stored.{used-within, bits-there}
 use Rattle.table.proofs.Soundness.{of_size, head-fits}
 use Rattle.table.proofs.Judging.{bits-split}
@@ -25,17 +25,17 @@ open-sum-requires c κs =
     head-fits start.args.table.now (of_size start.args.table.now start.requires)
 
 -- what the walk said
-module _ (t : List ℕ) (n : ℕ) {f : Found} (told : f ≡ foundIn t n) where
-  all_told : f.ok ≡ all_below n (λ i. recordSound (recordBytes t i))
-  unfolding foundIn
+module _ (t : List ℕ) (n : ℕ) {f : Found} (told : f ≡ found_in t n) where
+  all_told : f.ok ≡ all_below n (λ i. record_sound (record_bytes t i))
+  unfolding found_in
   all_told = ap (λ (x : Found). x.ok) told
 
-  sum_told : f.ok ≡ true → f.sum ≡ sumBelow n (open_at t)
-  unfolding foundIn
-  sum_told ok = ap (λ (x : Found). x.sum) told ∙ ap (λ (b : Bool). pick b (sumBelow n (open_at t)) 0) (sym all_told ∙ ok)
+  sum_told : f.ok ≡ true → f.sum ≡ sum_below n (open_at t)
+  unfolding found_in
+  sum_told ok = ap (λ (x : Found). x.sum) told ∙ ap (λ (b : Bool). pick b (sum_below n (open_at t)) 0) (sym all_told ∙ ok)
 
 returns : tie.Need-returns
-unfolding sumGood
+unfolding sum_good
 returns c =
     let clear = c.before.before in
     let agreed = clear.before.before in

@@ -2,16 +2,16 @@
 use Rattle.octets.proofs.Proving.{List, ◌+◌, ◌-◌, ◌∙◌, ◌≡◌, ◌≤◌, ap, ap₂, arith, needs, sub_self, unasked, ℕ}
 use mathlib.Core.Bool.{beq}
 use Rattle.octets.specs.Choice.{all_below}
-use Rattle.bitrow.specs.Row.{bitAt}
-use Rattle.orders.specs.Order.{order_of, isLive}
-use Rattle.table.specs.Table.{order_at, bitBytes, isMarked}
+use Rattle.bitrow.specs.Row.{bit_at}
+use Rattle.orders.specs.Order.{order_of, is_live}
+use Rattle.table.specs.Table.{order_at, bit_bytes, is_marked}
 use Rattle.table.proofs.Judging.{agrees, one_more}
 use Rattle.table.proofs.sound.rest_agrees.Statement.{statement}
 use Rattle.table.proofs.sound.rest_agrees.Tie as tie
 
 abbrev invariant-loop : tie.invariant-loop
 invariant-loop table from n bits ok₀ i₀ ok i =
-    (bits ≡ bitBytes table) × (from ≤ i) × (i ≤ n) × (ok ≡ all_below (i - from) (λ j. agrees table (from + j)))
+    (bits ≡ bit_bytes table) × (from ≤ i) × (i ≤ n) × (ok ≡ all_below (i - from) (λ j. agrees table (from + j)))
 
 abbrev decreases-loop : tie.decreases-loop
 decreases-loop table from n bits ok₀ i₀ ok i = n - i
@@ -21,12 +21,12 @@ unfolding all_below
 loop-holds c = (c.bit-bytes.ensures, omega arith, c.before.before.requires.0, rw sub_self)
 
 loop-again : tie.Need-loop-preserved invariant-loop decreases-loop
-unfolding isMarked order_at
+unfolding is_marked order_at
 loop-again c =
     let l = c.before.before.before.before.loop in
     let a = c.before.before.before.before.before.before.before.args in
-    let bit = c.before.before.bit_at.ensures ∙ ap (λ (b : List ℕ). bitAt b l.i) l.invariant.0 in
-    let live = c.lives.ensures ∙ ap (λ (r : List ℕ). isLive (order_of r)) c.before.record-bytes.ensures.0 in
+    let bit = c.before.before.bit_at.ensures ∙ ap (λ (b : List ℕ). bit_at b l.i) l.invariant.0 in
+    let live = c.lives.ensures ∙ ap (λ (r : List ℕ). is_live (order_of r)) c.before.record-bytes.ensures.0 in
     (l.invariant.0, omega (arith, l.invariant.1), omega arith, one_more a.table.now a.from l.i l.invariant.1 l.invariant.3 (ap₂ beq bit live))
 
 returns : tie.Need-returns invariant-loop decreases-loop

@@ -1,12 +1,12 @@
 -- The definition, which overflows for no table's number of records. Assumes nothing.
 use Rattle.octets.proofs.Proving.{needs, refl}
-use Rattle.bitrow.specs.Row.{bytesFor}
-use Rattle.table.specs.Table.{tableSize}
+use Rattle.bitrow.specs.Row.{bytes_for}
+use Rattle.table.specs.Table.{table_size}
 use Rattle.table.proofs.sound.table_size.Statement.{statement}
 use Rattle.table.proofs.sound.table_size.Tie as tie
 
 returns : tie.Need-returns
-unfolding tableSize bytesFor
+unfolding table_size bytes_for
 returns c = refl
 
 pub table-size-spec : {M : Type 1} → statement M

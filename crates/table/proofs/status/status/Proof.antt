@@ -1,16 +1,16 @@
 -- The two numbers, as they stand in the table. Assumes nothing.
 use Rattle.octets.proofs.Proving.{List, ◌≡◌, answered, arith, needs, true, unasked, ℕ}
 use Rattle.octets.proofs.Below.{both}
-use Rattle.table.specs.Table.{sizeGood}
-use Rattle.table.specs.Status.{formGood, status}
+use Rattle.table.specs.Table.{size_good}
+use Rattle.table.specs.Status.{form_good, status}
 use Rattle.table.proofs.Stored.{few_bits}
 use Rattle.table.proofs.Soundness.{Sized, of_size, head-fits}
 use Rattle.table.proofs.status.status.Statement.{statement}
 use Rattle.table.proofs.status.status.Tie as tie
 
-sized : (t : List ℕ) → formGood t ≡ true → Sized t
-unfolding formGood
-sized t e = of_size t (both (sizeGood t) _ e).0
+sized : (t : List ℕ) → form_good t ≡ true → Sized t
+unfolding form_good
+sized t e = of_size t (both (size_good t) _ e).0
 
 ones-requires : tie.Need-ones-requires
 ones-requires c κs =

@@ -1,6 +1,6 @@
 -- The record is read before anything of the table is written. Assumes nothing.
 use Rattle.octets.proofs.Proving.{arith, needs, unasked}
-use Rattle.table.specs.Table.{order_at, withOpenSum, counted}
+use Rattle.table.specs.Table.{order_at, with_open_sum, counted}
 use Rattle.table.proofs.Stored.{record-fits}
 use Rattle.table.proofs.store.count.Statement.{statement}
 use Rattle.table.proofs.store.count.Tie as tie
@@ -11,7 +11,7 @@ open-sum-requires c κs =
     omega (arith, record-fits start.args.table.now start.args.i start.requires)
 
 returns : tie.Need-returns
-unfolding counted withOpenSum order_at
+unfolding counted with_open_sum order_at
 returns c = cc
 
 pub count_spec : {M : Type 1} → statement M

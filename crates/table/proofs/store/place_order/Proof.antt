@@ -2,8 +2,8 @@
 use Rattle.octets.proofs.Proving.{List, ◌<◌, arith, needs, subst, sym, ℕ}
 use Rattle.octets.specs.Bytes.{put}
 use Rattle.octets.proofs.Laws.{put-lent, length-put}
-use Rattle.orders.specs.Order.{orderBytes}
-use Rattle.table.specs.Table.{recordsIn}
+use Rattle.orders.specs.Order.{order_bytes}
+use Rattle.table.specs.Table.{records_in}
 use Rattle.table.proofs.Stored.{same-records}
 use Rattle.table.proofs.store.place_order.Statement.{statement}
 use Rattle.table.proofs.store.place_order.Tie as tie
@@ -14,9 +14,9 @@ returns c =
     let start = c.before.before.before.before.before.before.before in
     let t = start.args.table.now in
     let e = c.before.before.put_order.ensures in
-    let is-put = put-lent t placed.result 80 (orderBytes start.args.o) _ e.0 e.1 in
-    let long = length-put t placed.result (orderBytes start.args.o) (omega (arith, e.1, placed.ensures.1)) in
-    (rw (← placed.ensures.0) is-put, subst (λ (u : List ℕ). start.args.i < recordsIn u) (sym is-put) (rw (same-records t (put t placed.result (orderBytes start.args.o)) long) start.requires))
+    let is-put = put-lent t placed.result 80 (order_bytes start.args.o) _ e.0 e.1 in
+    let long = length-put t placed.result (order_bytes start.args.o) (omega (arith, e.1, placed.ensures.1)) in
+    (rw (← placed.ensures.0) is-put, subst (λ (u : List ℕ). start.args.i < records_in u) (sym is-put) (rw (same-records t (put t placed.result (order_bytes start.args.o)) long) start.requires))
 
 pub place-order-spec : {M : Type 1} → statement M
 place-order-spec =

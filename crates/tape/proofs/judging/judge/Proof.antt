@@ -1,7 +1,7 @@
 -- 2 where it is not well formed; else what its first bad place answers. Assumes nothing.
 use Rattle.octets.proofs.Proving.{◌∙◌, ap, needs, sym, unasked, ℕ}
 use Rattle.answers.specs.declared.Answer.TheVariants.{Done}
-use Rattle.wire.specs.Messages.{placeAnswer}
+use Rattle.wire.specs.Messages.{place_answer}
 use Rattle.tape.proofs.Formed.{answer-judged, answer-malformed}
 use Rattle.tape.proofs.judging.judge.Statement.{statement}
 use Rattle.tape.proofs.judging.judge.Tie as tie
@@ -10,7 +10,7 @@ returns : tie.Need-returns
 returns c =
     let w = c.before.before.before in
     c.answer-for.ensures
-    ∙ ap (λ (p : ℕ). placeAnswer p Done) c.before.first-bad.ensures
+    ∙ ap (λ (p : ℕ). place_answer p Done) c.before.first-bad.ensures
     ∙ answer-judged _ (sym w.well-formed-2.ensures ∙ c.before.before.if1.true)
 
 returns-2 : tie.Need-returns-2

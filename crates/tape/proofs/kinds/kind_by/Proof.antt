@@ -1,71 +1,71 @@
 -- Each arm is a kind's letter; behind the last no letter is left. Assumes nothing.
 use borrow.Author.Tests.{ne_eqb}
-use Rattle.tape.specs.Kinds.{kindBy}
+use Rattle.tape.specs.Kinds.{kind_by}
 use Rattle.tape.proofs.kinds.kind_by.Statement.{statement}
 use Rattle.tape.proofs.kinds.kind_by.Tie as tie
 
 returns : tie.Need-returns
-unfolding kindBy
+unfolding kind_by
 returns c = rw c.match.keys1
 
 returns-2 : tie.Need-returns-2
-unfolding kindBy
+unfolding kind_by
 returns-2 c = rw c.match.keys2
 
 returns-3 : tie.Need-returns-3
-unfolding kindBy
+unfolding kind_by
 returns-3 c = rw c.match.keys3
 
 returns-4 : tie.Need-returns-4
-unfolding kindBy
+unfolding kind_by
 returns-4 c = rw c.match.keys4
 
 returns-5 : tie.Need-returns-5
-unfolding kindBy
+unfolding kind_by
 returns-5 c = rw c.match.keys5
 
 returns-6 : tie.Need-returns-6
-unfolding kindBy
+unfolding kind_by
 returns-6 c = rw c.match.keys6
 
 returns-7 : tie.Need-returns-7
-unfolding kindBy
+unfolding kind_by
 returns-7 c = rw c.match.keys7
 
 returns-8 : tie.Need-returns-8
-unfolding kindBy
+unfolding kind_by
 returns-8 c = rw c.match.keys8
 
 returns-9 : tie.Need-returns-9
-unfolding kindBy
+unfolding kind_by
 returns-9 c = rw c.match.keys9
 
 returns-10 : tie.Need-returns-10
-unfolding kindBy
+unfolding kind_by
 returns-10 c = rw c.match.keys10
 
 returns-11 : tie.Need-returns-11
-unfolding kindBy
+unfolding kind_by
 returns-11 c = rw c.match.keys11
 
 returns-12 : tie.Need-returns-12
-unfolding kindBy
+unfolding kind_by
 returns-12 c = rw c.match.keys12
 
 returns-13 : tie.Need-returns-13
-unfolding kindBy
+unfolding kind_by
 returns-13 c = rw c.match.keys13
 
 returns-14 : tie.Need-returns-14
-unfolding kindBy
+unfolding kind_by
 returns-14 c = rw c.match.keys14
 
 returns-15 : tie.Need-returns-15
-unfolding kindBy
+unfolding kind_by
 returns-15 c = rw c.match.keys15
 
 returns-16 : tie.Need-returns-16
-unfolding kindBy
+unfolding kind_by
 returns-16 c = simp (ne_eqb _ _ c.match.rest.0.0.0.0.0.0.0.0.0.0.0.0.0.0.1, ne_eqb _ _ c.match.rest.0.0.0.0.0.0.0.0.0.0.0.0.0.1, ne_eqb _ _ c.match.rest.0.0.0.0.0.0.0.0.0.0.0.0.1, ne_eqb _ _ c.match.rest.0.0.0.0.0.0.0.0.0.0.0.1, ne_eqb _ _ c.match.rest.0.0.0.0.0.0.0.0.0.0.1, ne_eqb _ _ c.match.rest.0.0.0.0.0.0.0.0.0.1, ne_eqb _ _ c.match.rest.0.0.0.0.0.0.0.0.1, ne_eqb _ _ c.match.rest.0.0.0.0.0.0.0.1, ne_eqb _ _ c.match.rest.0.0.0.0.0.0.1, ne_eqb _ _ c.match.rest.0.0.0.0.0.1, ne_eqb _ _ c.match.rest.0.0.0.0.1, ne_eqb _ _ c.match.rest.0.0.0.1, ne_eqb _ _ c.match.rest.0.0.1, ne_eqb _ _ c.match.rest.0.1, ne_eqb _ _ c.match.rest.1)
 
 pub kind-by-spec : {M : Type 1} → statement M

@@ -1,12 +1,12 @@
 -- The first byte, where there is one. Assumes nothing.
-use Rattle.octets.proofs.Proving.{List·getD-eq-default, ◌≡◌, arith, needs, unasked}
-use Rattle.tape.specs.Kinds.{kindBy, kind_of}
+use Rattle.octets.proofs.Proving.{List·get_d-eq-default, ◌≡◌, arith, needs, unasked}
+use Rattle.tape.specs.Kinds.{kind_by, kind_of}
 use Rattle.tape.proofs.kinds.kind_of.Statement.{statement}
 use Rattle.tape.proofs.kinds.kind_of.Tie as tie
 
 returns : tie.Need-returns
-unfolding kind_of kindBy
-returns c = rw (List·getD-eq-default c.before.before.args.entry.now 0 {n = 0} (omega arith))
+unfolding kind_of kind_by
+returns c = rw (List·get_d-eq-default c.before.before.args.entry.now 0 {n = 0} (omega arith))
 
 returns-2 : tie.Need-returns-2
 unfolding kind_of

@@ -1,13 +1,13 @@
 -- The table of lengths says what the layouts say. Assumes nothing.
 use Rattle.octets.proofs.Proving.{List, [], ◌<◌, ◌∷◌, ◌≡◌, arith, get_or, refl, unasked, ℕ}
-use Rattle.tape.specs.Kinds.{Kind, Enters, Replaces, Cancels, Modifies, Executes, BookCancels, SelfMatches, Prioritises, TurnsLate, EndsCross, TellsDay, SetsStock, Purges, Disables, Enables, Unknown, kindPlace, layout_of}
+use Rattle.tape.specs.Kinds.{Kind, Enters, Replaces, Cancels, Modifies, Executes, BookCancels, SelfMatches, Prioritises, TurnsLate, EndsCross, TellsDay, SetsStock, Purges, Disables, Enables, Unknown, kind_place, layout_of}
 use Rattle.tape.proofs.kinds.length_of.Statement.{statement}
 use Rattle.tape.proofs.kinds.length_of.Tie as tie
 
 lengths : List ℕ
 lengths = 56 ∷ 55 ∷ 27 ∷ 28 ∷ 40 ∷ 28 ∷ 36 ∷ 27 ∷ 23 ∷ 23 ∷ 10 ∷ 18 ∷ 21 ∷ 13 ∷ 13 ∷ 0 ∷ []
 
-at_place : (kind : Kind) → (kindPlace kind < 16) × ((get_or lengths (kindPlace kind) 0 < 256) × (get_or lengths (kindPlace kind) 0 ≡ (layout_of kind).size))
+at_place : (kind : Kind) → (kind_place kind < 16) × ((get_or lengths (kind_place kind) 0 < 256) × (get_or lengths (kind_place kind) 0 ≡ (layout_of kind).size))
 unfolding lengths
 at_place Enters = (omega arith, (omega arith, refl))
 at_place Replaces = (omega arith, (omega arith, refl))

@@ -1,11 +1,11 @@
 -- Each field is what its leaf says. Assumes nothing.
 use borrow.Author.Rules.{rules}
-use Rattle.tape.specs.Entries.{executionOf}
+use Rattle.tape.specs.Entries.{execution_of}
 use Rattle.tape.proofs.reading.execution_of.Statement.{statement}
 use Rattle.tape.proofs.reading.execution_of.Tie as tie
 
 returns : tie.Need-returns
-unfolding executionOf
+unfolding execution_of
 returns c = cc
 
 pub execution-of-spec : {M : Type 1} → statement M

@@ -1,11 +1,11 @@
 -- Test for test. Assumes nothing.
 use mathlib.Core.Path.{refl}
-use Rattle.tape.specs.Entries.{namesOrder}
+use Rattle.tape.specs.Entries.{names_order}
 use Rattle.tape.proofs.reading.names_order.Statement.{statement}
 use Rattle.tape.proofs.reading.names_order.Tie as tie
 
 returns : tie.Need-returns
-unfolding namesOrder
+unfolding names_order
 returns c = refl
 
 pub names-order-spec : {M : Type 1} → statement M

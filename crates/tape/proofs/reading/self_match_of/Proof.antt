@@ -1,11 +1,11 @@
 -- Each field is what its leaf says. Assumes nothing.
 use borrow.Author.Rules.{rules}
-use Rattle.tape.specs.Entries.{selfMatchOf}
+use Rattle.tape.specs.Entries.{self_match_of}
 use Rattle.tape.proofs.reading.self_match_of.Statement.{statement}
 use Rattle.tape.proofs.reading.self_match_of.Tie as tie
 
 returns : tie.Need-returns
-unfolding selfMatchOf
+unfolding self_match_of
 returns c = cc
 
 pub self-match-of-spec : {M : Type 1} → statement M

@@ -1,11 +1,11 @@
 -- Each field is what its leaf says. Assumes nothing.
 use borrow.Author.Rules.{rules}
-use Rattle.tape.specs.Entries.{stockStateOf}
+use Rattle.tape.specs.Entries.{stock_state_of}
 use Rattle.tape.proofs.reading.stock_state_of.Statement.{statement}
 use Rattle.tape.proofs.reading.stock_state_of.Tie as tie
 
 returns : tie.Need-returns
-unfolding stockStateOf
+unfolding stock_state_of
 returns c = cc
 
 pub stock-state-of-spec : {M : Type 1} → statement M

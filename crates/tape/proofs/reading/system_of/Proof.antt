@@ -1,11 +1,11 @@
 -- Each field is what its leaf says. Assumes nothing.
 use borrow.Author.Rules.{rules}
-use Rattle.tape.specs.Entries.{systemOf}
+use Rattle.tape.specs.Entries.{system_of}
 use Rattle.tape.proofs.reading.system_of.Statement.{statement}
 use Rattle.tape.proofs.reading.system_of.Tie as tie
 
 returns : tie.Need-returns
-unfolding systemOf
+unfolding system_of
 returns c = cc
 
 pub system-of-spec : {M : Type 1} → statement M

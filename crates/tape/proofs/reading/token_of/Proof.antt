@@ -1,11 +1,11 @@
 -- Each field is what its leaf says. Assumes nothing.
 use borrow.Author.Rules.{rules}
-use Rattle.tape.specs.Entries.{tokenOf}
+use Rattle.tape.specs.Entries.{token_of}
 use Rattle.tape.proofs.reading.token_of.Statement.{statement}
 use Rattle.tape.proofs.reading.token_of.Tie as tie
 
 returns : tie.Need-returns
-unfolding tokenOf
+unfolding token_of
 returns c = cc
 
 pub token-of-spec : {M : Type 1} → statement M

@@ -2,7 +2,7 @@
 use Rattle.octets.proofs.Proving.{◌∙◌, ap, arith, length, length-take, ltb, needs, sub-zero, sym, unasked, ℕ}
 use Rattle.octets.specs.Choice.{◌⇒◌⨾◌}
 use Rattle.answers.specs.declared.Answer.TheVariants.{NoRoom, Done}
-use Rattle.wire.specs.Messages.{messageLayout}
+use Rattle.wire.specs.Messages.{message_layout}
 use Rattle.wire.proofs.Numbered.{at-most-longest, none-at-0}
 use Rattle.wire.proofs.Verdicts.{roomy, not-sent, sent}
 use Rattle.wire.proofs.frame.send.Statement.{statement}
@@ -14,7 +14,7 @@ put-bytes-requires c κs =
     let bad = answer.before.before in
     let size = bad.before.before.before in
     let a = size.before.before.args in
-    let room = roomy (messageLayout a.k) a.t2 a.buffer.now (sub-zero _ ∙ size.size.ensures) bad.first-bad.ensures (answer.before.first_of.ensures ∙ ap (λ (m : ℕ). ltb (length a.buffer.now) m ⇒ NoRoom ⨾ Done) size.size.ensures) answer.answer-for.ensures (none-at-0 a.k _) (sym c.before.before.is-done.ensures ∙ c.before.if1.true) in
+    let room = roomy (message_layout a.k) a.t2 a.buffer.now (sub-zero _ ∙ size.size.ensures) bad.first-bad.ensures (answer.before.first_of.ensures ∙ ap (λ (m : ℕ). ltb (length a.buffer.now) m ⇒ NoRoom ⨾ Done) size.size.ensures) answer.answer-for.ensures (none-at-0 a.k _) (sym c.before.before.is-done.ensures ∙ c.before.if1.true) in
     simp length-take (omega (arith, room, size.size.ensures))
 
 returns : tie.Need-returns
@@ -24,7 +24,7 @@ returns c =
     let bad = answer.before.before in
     let size = bad.before.before.before in
     let a = size.before.before.args in
-    sent (messageLayout a.k) a.t2 a.buffer.now (sub-zero _ ∙ size.size.ensures) bad.first-bad.ensures (answer.before.first_of.ensures ∙ ap (λ (m : ℕ). ltb (length a.buffer.now) m ⇒ NoRoom ⨾ Done) size.size.ensures) answer.answer-for.ensures (none-at-0 a.k _) (sym taken.before.is-done.ensures ∙ taken.if1.true) (omega (arith, at-most-longest a.k, size.before.before.well-formed)) c.before.before.put-bytes.ensures
+    sent (message_layout a.k) a.t2 a.buffer.now (sub-zero _ ∙ size.size.ensures) bad.first-bad.ensures (answer.before.first_of.ensures ∙ ap (λ (m : ℕ). ltb (length a.buffer.now) m ⇒ NoRoom ⨾ Done) size.size.ensures) answer.answer-for.ensures (none-at-0 a.k _) (sym taken.before.is-done.ensures ∙ taken.if1.true) (omega (arith, at-most-longest a.k, size.before.before.well-formed)) c.before.before.put-bytes.ensures
 
 returns-2 : tie.Need-returns-2
 returns-2 c =
@@ -32,7 +32,7 @@ returns-2 c =
     let bad = answer.before.before in
     let size = bad.before.before.before in
     let a = size.before.before.args in
-    not-sent (messageLayout a.k) a.t2 a.buffer.now (sub-zero _ ∙ size.size.ensures) bad.first-bad.ensures (answer.before.first_of.ensures ∙ ap (λ (m : ℕ). ltb (length a.buffer.now) m ⇒ NoRoom ⨾ Done) size.size.ensures) answer.answer-for.ensures (none-at-0 a.k _) (sym c.before.is-done.ensures ∙ c.if1.false)
+    not-sent (message_layout a.k) a.t2 a.buffer.now (sub-zero _ ∙ size.size.ensures) bad.first-bad.ensures (answer.before.first_of.ensures ∙ ap (λ (m : ℕ). ltb (length a.buffer.now) m ⇒ NoRoom ⨾ Done) size.size.ensures) answer.answer-for.ensures (none-at-0 a.k _) (sym c.before.is-done.ensures ∙ c.if1.false)
 
 pub send-spec : {M : Type 1} → statement M
 send-spec =

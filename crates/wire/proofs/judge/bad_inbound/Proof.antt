@@ -1,6 +1,6 @@
 -- Each arm asks about the fields that its message judges, in their order. Assumes nothing.
 use Rattle.octets.proofs.Proving.{◌+◌, arith, needs, unasked}
-use Rattle.wire.specs.Layout.{tokenAt, sideAt, sweepAt, badPlace, firstBadPlace}
+use Rattle.wire.specs.Layout.{token_at, side_at, sweep_at, bad_place, first_bad_place}
 use Rattle.wire.proofs.Numbered.{inbound-long, fits-from, last-inbound}
 use Rattle.wire.proofs.Found.{one, two, three}
 use Rattle.wire.proofs.judge.bad_inbound.Statement.{statement}
@@ -19,34 +19,34 @@ bad-side-requires-2 c κs =
     omega (arith, fits-from 16 start.args.from three start.requires.1 tt)
 
 returns : tie.Need-returns
-unfolding firstBadPlace badPlace
+unfolding first_bad_place bad_place
 returns c =
     let p = c.before.before.before.before in
     let from = p.before.before.before.args.from in
     rw p.match.keys1
-    (three (tokenAt (1 + from)) (sideAt (15 + from)) (sweepAt (42 + from)) _ (omega arith) (omega arith) c.earlier2.ensures c.before.earlier.ensures
+    (three (token_at (1 + from)) (side_at (15 + from)) (sweep_at (42 + from)) _ (omega arith) (omega arith) c.earlier2.ensures c.before.earlier.ensures
     p.before.bad-token.ensures c.before.before.before.bad-side.ensures c.before.before.bad-sweep.ensures)
 
 returns-2 : tie.Need-returns-2
-unfolding firstBadPlace badPlace
+unfolding first_bad_place bad_place
 returns-2 c =
     let p = c.before.before.before.before in
     let from = p.before.before.before.args.from in
     rw p.match.keys2
-    (three (tokenAt (1 + from)) (tokenAt (15 + from)) (sweepAt (42 + from)) _ (omega arith) (omega arith) c.earlier4.ensures c.before.earlier3.ensures
+    (three (token_at (1 + from)) (token_at (15 + from)) (sweep_at (42 + from)) _ (omega arith) (omega arith) c.earlier4.ensures c.before.earlier3.ensures
     p.before.bad-token.ensures c.before.before.before.bad-token2.ensures c.before.before.bad-sweep2.ensures)
 
 returns-3 : tie.Need-returns-3
-unfolding firstBadPlace badPlace
-returns-3 c = rw c.match.keys3 (one (tokenAt (1 + c.before.before.before.args.from)) _ c.before.bad-token.ensures)
+unfolding first_bad_place bad_place
+returns-3 c = rw c.match.keys3 (one (token_at (1 + c.before.before.before.args.from)) _ c.before.bad-token.ensures)
 
 returns-4 : tie.Need-returns-4
-unfolding firstBadPlace badPlace
+unfolding first_bad_place bad_place
 returns-4 c =
     let p = c.before.before in
     let from = p.before.before.before.args.from in
     rw (last-inbound p.before.before.before.requires.0 p.match.rest.0.0.1 p.match.rest.0.1 p.match.rest.1)
-    (two (tokenAt (1 + from)) (sideAt (15 + from)) _ (omega arith) c.earlier5.ensures p.before.bad-token.ensures c.before.bad-side2.ensures)
+    (two (token_at (1 + from)) (side_at (15 + from)) _ (omega arith) c.earlier5.ensures p.before.bad-token.ensures c.before.bad-side2.ensures)
 
 pub bad-inbound-spec : {M : Type 1} → statement M
 bad-inbound-spec =

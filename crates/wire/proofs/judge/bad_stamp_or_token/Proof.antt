@@ -1,6 +1,6 @@
 -- A stamp and a token are all that is judged; from number 16 on there is no message, and nothing of it is bad. Assumes nothing.
 use Rattle.octets.proofs.Proving.{◌∙◌, ◌≤◌, arith, length, sym, unasked}
-use Rattle.wire.specs.Layout.{stampAt, tokenAt}
+use Rattle.wire.specs.Layout.{stamp_at, token_at}
 use Rattle.wire.proofs.Found.{two}
 use Rattle.wire.proofs.Numbered.{long, stamp-or-token, no-message-place}
 use Rattle.wire.proofs.judge.bad_stamp_or_token.Statement.{statement}
@@ -14,7 +14,7 @@ returns : tie.Need-returns
 returns c =
     let there = c.before.before.before in
     let start = there.before.before in
-    two (stampAt 1) (tokenAt 9) _ (omega arith) c.earlier.ensures c.before.before.bad-stamp.ensures c.before.bad-token.ensures
+    two (stamp_at 1) (token_at 9) _ (omega arith) c.earlier.ensures c.before.before.bad-stamp.ensures c.before.bad-token.ensures
     ∙ sym (stamp-or-token start.args.s.now start.args.k there.if1.true start.requires.0.0 start.requires.0.1)
 
 returns-2 : tie.Need-returns-2

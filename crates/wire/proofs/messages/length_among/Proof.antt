@@ -1,13 +1,13 @@
 -- The loop's invariant: the length looked for is that among the messages not yet passed. The measure is how many they are.
 -- Assumes nothing.
 use Rattle.octets.proofs.Proving.{◌-◌, ◌∙◌, ◌≡◌, ◌≤◌, drop, eq-eqb, ne_eqb, needs, refl, sym, take}
-use Rattle.wire.specs.Messages.{messages, lengthFor}
+use Rattle.wire.specs.Messages.{messages, length_for}
 use Rattle.wire.proofs.Numbered.{among_next, among-end}
 use Rattle.wire.proofs.messages.length_among.Statement.{statement}
 use Rattle.wire.proofs.messages.length_among.Tie as tie
 
 abbrev invariant-loop : tie.invariant-loop
-invariant-loop from to letter k₀ k = (from ≤ k) × (lengthFor (drop from (take to messages)) letter ≡ lengthFor (drop k (take to messages)) letter)
+invariant-loop from to letter k₀ k = (from ≤ k) × (length_for (drop from (take to messages)) letter ≡ length_for (drop k (take to messages)) letter)
 
 abbrev decreases-loop : tie.decreases-loop
 decreases-loop from to letter k₀ k = to - k

@@ -1,11 +1,11 @@
 -- The price is judged as the number that its bytes spell. Assumes nothing.
 use Rattle.octets.proofs.Proving.{needs, unasked}
-use Rattle.wire.specs.Layout.{badPlace}
+use Rattle.wire.specs.Layout.{bad_place}
 use Rattle.wire.proofs.places.bad_limit_price.Statement.{statement}
 use Rattle.wire.proofs.places.bad_limit_price.Tie as tie
 
 returns : tie.Need-returns
-unfolding badPlace
+unfolding bad_place
 returns c = rw (c.bad-unless.ensures, c.before.be32.ensures)
 
 pub bad-limit-price-spec : {M : Type 1} → statement M

@@ -1,7 +1,7 @@
 -- The one number from 0 to 0 is 0. Assumes nothing.
 use Rattle.octets.proofs.Proving.{◌&&◌, ◌≡◌, arith, eqb, leb, leb·zero, lt-leb, ne_eqb, needs, refl, suc, unasked, zero, ℕ}
 use Rattle.octets.specs.Bytes.{whole_at}
-use Rattle.wire.specs.Layout.{badPlace}
+use Rattle.wire.specs.Layout.{bad_place}
 use Rattle.wire.proofs.places.bad_nonzero.Statement.{statement}
 use Rattle.wire.proofs.places.bad_nonzero.Tie as tie
 
@@ -10,7 +10,7 @@ only_zero zero = refl
 only_zero (suc n) = rw (leb·zero (suc n), lt-leb (suc n) 0 (omega arith), ne_eqb (suc n) 0 (λ e. omega (arith, e)))
 
 returns : tie.Need-returns
-unfolding badPlace
+unfolding bad_place
 returns c =
     let a = c.before.before.before.args in
     rw (c.bad-unless.ensures, c.before.be16.ensures, only_zero (whole_at a.s.now a.at 2))

@@ -1,11 +1,11 @@
 -- The letter is judged as the number that its byte spells. Assumes nothing.
 use Rattle.octets.proofs.Proving.{needs, unasked}
-use Rattle.wire.specs.Layout.{badPlace}
+use Rattle.wire.specs.Layout.{bad_place}
 use Rattle.wire.proofs.places.bad_system_event.Statement.{statement}
 use Rattle.wire.proofs.places.bad_system_event.Tie as tie
 
 returns : tie.Need-returns
-unfolding badPlace
+unfolding bad_place
 returns c = rw (c.bad-unless.ensures, c.before.is-system-event.ensures, c.before.before.byte_at.ensures)
 
 pub bad-system-event-spec : {M : Type 1} → statement M
