@@ -1,4 +1,6 @@
 // What every call of the host answers, and the one file in which an answer becomes the paper's number and place.
+#![tactic(auto)]
+
 ghost use Rattle.std.specs.Prelude.{◌≡◌};
 ghost use Rattle.octets.specs.Choice.{◌⇒◌⨾◌};
 ghost use Rattle.answers.specs.Answer.{answer_number, answer_place, is_done};

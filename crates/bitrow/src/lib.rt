@@ -2,6 +2,8 @@
 // changed, the ones are counted, a byte's lowest one is found and cleared, and a row is asked whether it is clear from a place on.
 //
 // A bit past the row is not set, and setting it changes nothing: so none of these asks where the row ends but `ones`, whose count must fit.
+#![tactic(auto)]
+
 ghost use Rattle.std.specs.Prelude.{◌≡◌, true, false, ◌*◌, ◌<◌, ◌^◌, length};
 ghost use Rattle.octets.specs.Choice.{first_below};
 ghost use Rattle.octets.specs.Bits.{bit_of, with_bit};

@@ -1,6 +1,8 @@
 // Plays the paper's worked numbers, the errors that students really make, the order of answers, the places that they tell, the order of reject
 // letters, other settings, halts, intended sizes after a self match, the purge button, what is counted of the live orders, and old tables through the
 // host, and prints a line for each: what should happen and what did. The last line counts those that agree.
+#![tactic(auto)]
+
 mod answers_order;
 mod asked;
 mod entries;

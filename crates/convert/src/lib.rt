@@ -1,5 +1,7 @@
 // The converter: an old table rebuilt as one of today in a second lent buffer. The old one is only read, and the second is written only if all of it
 // can be.
+#![tactic(auto)]
+
 pub mod old;
 
 ghost use Rattle.std.specs.Prelude.{◌≡◌, ◌+◌, ◌≤◌, length};

@@ -57,7 +57,7 @@ pub(crate) fn renewed(old: &[u8]) -> [u8; SUM_PLACE]
     ensures { result ≡ renewed old.now }
 {
     let mut head = [0u8; SUM_PLACE];
-    bytes::copy(&old[0..SUM_PLACE], &mut head);
+    head.copy_from_slice(&old[0..SUM_PLACE]);
     head[2] = TABLE_FORM;
     head
 }

@@ -1,4 +1,6 @@
 // The practice desk's host: 800 records, threshold 1,000,000, firm ABCD, a ring of 4,096 bytes, and one stock, ABC, which trades.
+#![tactic(auto)]
+
 ghost use Rattle.std.specs.Prelude.{◌≡◌};
 ghost use Rattle.table.specs.Fresh.{fresh_answer, fresh_table};
 ghost use Rattle.desk.specs.Desk.{desk_settings};

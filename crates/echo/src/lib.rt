@@ -1,4 +1,6 @@
 // Reading any of the sixteen messages and writing it back: what a client's author tries a codec with.
+#![tactic(auto)]
+
 mod from_client;
 mod from_host;
 

@@ -2,6 +2,8 @@
 //
 // A program lends a buffer and asks for the next piece. It gets it as soon as its last byte is there: what has come in is taken at once, and
 // only where no whole piece is held does a read wait for more. No function asks anything of its caller.
+#![tactic(auto)]
+
 mod held;
 pub mod pieces;
 mod refill;

@@ -1,5 +1,7 @@
 // The table's header as a value: the day, what has happened in it, and the settings with their firms. Read from the 60 bytes of its value,
 // spelled as them, and judged.
+#![tactic(auto)]
+
 pub mod firms;
 pub mod settings;
 pub mod sound;

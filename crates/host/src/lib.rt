@@ -1,4 +1,6 @@
 // The host: one call that takes an entry to the table and its message to the outbox.
+#![tactic(auto)]
+
 mod commit;
 mod decide;
 pub mod step;

@@ -1,4 +1,6 @@
 // The listing of a tape as bytes: its fixed words, its lines, and the drawing of a ring. Programs write what this library spells.
+#![tactic(auto)]
+
 pub mod clock;
 pub mod drawing;
 pub mod lines;

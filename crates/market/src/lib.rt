@@ -1,4 +1,6 @@
 // What the market and the book tell the host: header, order and entry as values in, a plan out.
+#![tactic(auto)]
+
 pub mod cross;
 pub mod day;
 mod guards;

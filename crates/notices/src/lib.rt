@@ -1,4 +1,6 @@
 // The message that a plan sends, in bytes. At most one message goes out for an entry, and none is longer than 80 bytes.
+#![tactic(auto)]
+
 ghost use Rattle.std.specs.Prelude.{◌≡◌, []};
 ghost use Rattle.outbound.specs.Outbound.{system_event_bytes, accepted_bytes, replaced_bytes, canceled_bytes, aiq_cancelled_bytes, executed_bytes, rejected_bytes, cancel_pending_bytes, cancel_reject_bytes, priority_update_bytes, modified_bytes};
 ghost use Rattle.notices.specs.Notices.{stated_order, accepted_notice, replaced_notice, canceled_notice, self_match_notice, executed_notice, rejected_notice, priority_notice, modified_notice, notice_bytes, message, sent};

@@ -2,6 +2,8 @@
 //
 // `read_` and `write_` take every input: they judge first, and their answers are the paper's. `spell_` is the step behind `write_` for a
 // caller whose fields are legal already: the message at the front of eighty bytes.
+#![tactic(auto)]
+
 pub mod accepted;
 pub mod aiq_cancelled;
 pub mod broken_trade;

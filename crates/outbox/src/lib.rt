@@ -1,4 +1,6 @@
 // The outbox: a ring of lent bytes that never forgets. A message that has no room is turned away, and nothing moves.
+#![tactic(auto)]
+
 pub mod marks;
 pub mod put;
 pub mod read;

@@ -1,6 +1,8 @@
 // The door for C: ten functions, eight of them over lent memory. Each hands its arguments to a proved function and an answer's number back, and asks
 // nothing that a C caller could break but that its pointers and lengths are true. Where bytes are judged, the place that the answer tells is written
 // by every call.
+#![tactic(auto)]
+
 mod settings;
 
 ghost use Rattle.std.specs.Prelude.{◌≡◌, not, eqb, length};

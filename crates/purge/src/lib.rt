@@ -2,6 +2,8 @@
 //
 // `read_` takes every input: it judges first, and its answers are the paper's. `judge_` is its answer alone, and `parse_` the step behind it for a
 // caller that has judged already: it takes the fields from bytes of the message's length and does not look at the type.
+#![tactic(auto)]
+
 pub mod mass_cancel;
 pub mod order_entry;
 

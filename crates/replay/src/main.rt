@@ -7,6 +7,8 @@
 //
 // Each line is written before the next read waits. Where nobody reads standard output any longer the system ends the program; where it is full or
 // closed the program says so on standard error and stops.
+#![tactic(auto)]
+
 mod printing;
 
 ghost use Rattle.std.specs.Prelude.{◌-◌, ◌≤◌};

@@ -1,5 +1,7 @@
 // Six functions behind a C door of their own, for the benchmark to weigh by themselves: a step does all of this and more, and the host's door
 // calls none of them.
+#![tactic(auto)]
+
 ghost use Rattle.std.specs.Prelude.{◌≡◌, true, length};
 ghost use Rattle.answers.specs.Answer.{answer_number};
 ghost use Rattle.outbox.specs.Outbox.{put_moved, put_ring};

@@ -4,6 +4,8 @@
 //
 // A table is read to its end; otherwise each line is written before the next read waits. Where nobody reads standard output any longer the system ends
 // the program; where it is full or closed the program says so on standard error and stops.
+#![tactic(auto)]
+
 mod bad;
 mod entries;
 mod records;

@@ -1,5 +1,7 @@
 // An entry of the tape from a message and the time at which it came. The message is judged as by its reader; the stamp is taken as it is, since
 // the step that takes the entry judges it.
+#![tactic(auto)]
+
 ghost use Rattle.std.specs.Prelude.{◌≡◌, true, false, ◌∷◌, ◌++◌, ◌+◌, ◌≤◌, length};
 ghost use Rattle.octets.specs.Bytes.{put, digits};
 ghost use Rattle.answers.specs.declared.Answer.TheVariants.{Done};

@@ -6,6 +6,8 @@
 //
 // What the reader took of a message is written before the next read waits. Where nobody reads standard output any longer the system ends the
 // program; where it is full or closed the program says so on standard error and stops.
+#![tactic(auto)]
+
 ghost use Rattle.std.specs.Prelude.{◌-◌, ◌≤◌};
 ghost use Rattle.words.specs.Words.{Allowed, Roomy};
 

@@ -1,5 +1,7 @@
 // The table: a header, records behind it and a bit for each, judged, searched, read as values and stored. Every byte of a table is reached through
 // here.
+#![tactic(auto)]
+
 mod compare;
 pub mod find;
 pub mod fresh;

@@ -1,4 +1,6 @@
 // A tape is a row of entries: kinds, their lengths, judging an entry and reading it into a value.
+#![tactic(auto)]
+
 pub mod cutting;
 pub mod entry;
 pub mod judging;

@@ -1,4 +1,6 @@
 // What messages are made of: tokens, stamps, letters, prices, the two kinds of share number, and layouts.
+#![tactic(auto)]
+
 pub mod frame;
 pub mod judge;
 pub mod letters;

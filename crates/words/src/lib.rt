@@ -2,6 +2,8 @@
 //
 // No contract can speak of what is typed. So a word is heard by a function of its own, and of all that was typed it is promised that what comes of
 // it lies within the limits.
+#![tactic(auto)]
+
 mod numbers;
 
 ghost use Rattle.std.specs.Prelude.{◌≡◌, ◌<◌, ◌≤◌};

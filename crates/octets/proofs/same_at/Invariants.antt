@@ -1,0 +1,11 @@
+-- The loop's invariant: `ok` says that the k bytes passed are the same. The measure is what is left of b.
+use Rattle.octets.proofs.Proving.{◌+◌, ◌-◌, ◌∙◌, ◌≡◌, ◌≤◌, ap, arith, eqb, get_or, length, rules, refl, ℕ}
+use Rattle.octets.specs.Choice.{all_below}
+use Rattle.octets.proofs.Below.{all-next, part_same}
+use Rattle.octets.proofs.same_at.Given as goal
+
+abbrev pub invariant-loop-k : goal.invariant-loop-k
+invariant-loop-k l = (l.k ≤ length l.b) × (l.ok ≡ all_below l.k (λ j. eqb (get_or l.s (l.at + j) 0) (get_or l.b j 0)))
+
+abbrev pub decreases-loop-k : goal.decreases-loop-k
+decreases-loop-k l = length l.b - l.k
