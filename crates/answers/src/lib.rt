@@ -7,7 +7,7 @@ ghost use Rattle.answers.specs.Answer.{answer_number, answer_place, is_done};
 
 // In the paper's order of checking; the last three are a release's, a writer's, and the only one that changes anything. A bad field comes with
 // the offset of its first bad byte.
-#[derive(Drop)]
+#[derive(Clone, Copy)]
 pub enum Answer {
     NotSound,
     WrongRing,

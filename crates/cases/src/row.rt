@@ -12,7 +12,7 @@ const SCRIPT_FROM: usize = 42;
 const SHOULD_FROM: usize = 80;
 
 // How many rows were tried, and how many did what they should.
-#[derive(Drop)]
+#[derive(Clone, Copy)]
 pub struct Tally {
     pub tried: u64,
     pub agree: u64,

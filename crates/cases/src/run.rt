@@ -3,7 +3,7 @@ use outbox::marks::Marks;
 
 // The answer and its place, how many bytes were held before, whether a byte of table, ring or list or a mark has changed, and whether the first record's 80 bytes
 // are what they were.
-#[derive(Drop)]
+#[derive(Clone, Copy)]
 pub struct Last {
     pub answer: u8,
     pub place: usize,
@@ -12,7 +12,7 @@ pub struct Last {
     pub intact: bool,
 }
 
-#[derive(Drop)]
+#[derive(Clone, Copy)]
 pub struct Run {
     pub marks: Marks,
     // the length of the ring

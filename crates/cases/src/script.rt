@@ -39,7 +39,7 @@ pub const TABLE_SIZE: usize = 225;
 const PAST_THE_LAST: [u8; 8] = [0x0d, 0xe0, 0xb6, 0xb3, 0xa7, 0x64, 0, 0];
 
 // What is carried from one character of a script to the next.
-#[derive(Drop)]
+#[derive(Clone, Copy)]
 struct Word {
     run: Run,
     letter: u8,

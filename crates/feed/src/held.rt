@@ -3,7 +3,7 @@ ghost use Rattle.std.specs.Prelude.{◌≡◌};
 ghost use Rattle.feed.specs.Feed.{unread, past};
 
 // They stand from `at` on and before `end`. Marks that lie outside the buffer hold nothing.
-#[derive(Drop)]
+#[derive(Clone, Copy)]
 pub(crate) struct Held {
     pub at: usize,
     pub end: usize,

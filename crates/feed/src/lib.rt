@@ -17,7 +17,7 @@ use crate::refill::{read_some, ready};
 
 // The piece that was handed out last begins at `at` of the buffer and has `len` bytes; what was read ends before `end`. Nothing says that an
 // input ends, and a proved loop has to: `left` counts down from more pieces than any input has, and is 0 once no piece can follow.
-#[derive(Drop)]
+#[derive(Clone, Copy)]
 pub struct Feed {
     pub at: usize,
     pub len: usize,

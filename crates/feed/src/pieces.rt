@@ -7,7 +7,7 @@ use tape::kinds::entry_length;
 use wire::messages::message_length;
 
 // The entries of a tape, the messages of an outbound stream, or those that a client sends to the purge port.
-#[derive(Drop)]
+#[derive(Clone, Copy)]
 pub enum Pieces {
     Entries,
     Messages,

@@ -9,7 +9,7 @@ use crate::pieces::{Pieces, waits};
 use libc::STDIN_FILENO;
 
 // What is held after a read, and how many bytes it brought.
-#[derive(Drop)]
+#[derive(Clone, Copy)]
 pub(crate) struct Refilled {
     pub held: Held,
     pub more: usize,

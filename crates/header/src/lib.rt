@@ -35,7 +35,7 @@ pub const FIRST_REFERENCE: u64 = 1;
 
 pub const END_OF_REFERENCES: u64 = 1_000_000_000_000_000_000;
 
-#[derive(Drop)]
+#[derive(Clone, Copy)]
 pub struct Header {
     pub day: u8,
     // how many firms are listed

@@ -13,13 +13,13 @@ pub const LOWEST_THRESHOLD: u32 = 1;
 
 pub const HIGHEST_THRESHOLD: u32 = 1_000_000;
 
-#[derive(Drop)]
+#[derive(Clone, Copy)]
 pub struct Firm {
     pub code: [u8; 4],
 }
 
 // The first `count` firms are listed, the first of them as the default; the places past the count are not looked at.
-#[derive(Drop)]
+#[derive(Clone, Copy)]
 pub struct Settings {
     pub threshold: Total,
     pub firms: [Firm; 8],

@@ -27,7 +27,7 @@ use tape::judging::judge;
 use tape::reading::{names_order, purge_of, purges, stamp_of, token_of};
 
 // What a step answers, with the marks after it.
-#[derive(Drop)]
+#[derive(Clone, Copy)]
 pub struct Stepped {
     pub answer: Answer,
     pub marks: Marks,

@@ -10,13 +10,13 @@ use wire::messages::CANCEL_ORDER;
 use wire::shares::Total;
 use wire::spelling::{put_integer, put_token, started};
 
-#[derive(Drop)]
+#[derive(Clone, Copy)]
 pub struct CancelOrder {
     pub token: [u8; 14],
     pub size: Total,
 }
 
-#[derive(Drop)]
+#[derive(Clone, Copy)]
 pub struct CancelOrderRead {
     pub answer: Answer,
     pub body: CancelOrder,

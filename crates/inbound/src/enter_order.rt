@@ -10,7 +10,7 @@ use wire::messages::ENTER_ORDER;
 use wire::shares::{Removed, Total};
 use wire::spelling::{put_firm, put_integer, put_letter, put_stock, put_token, started};
 
-#[derive(Drop)]
+#[derive(Clone, Copy)]
 pub struct EnterOrder {
     pub token: [u8; 14],
     pub side: u8,
@@ -26,7 +26,7 @@ pub struct EnterOrder {
     pub cross: u8,
 }
 
-#[derive(Drop)]
+#[derive(Clone, Copy)]
 pub struct EnterOrderRead {
     pub answer: Answer,
     pub body: EnterOrder,

@@ -10,14 +10,14 @@ use wire::messages::MODIFY_ORDER;
 use wire::shares::Total;
 use wire::spelling::{put_integer, put_letter, put_token, started};
 
-#[derive(Drop)]
+#[derive(Clone, Copy)]
 pub struct ModifyOrder {
     pub token: [u8; 14],
     pub side: u8,
     pub shares: Total,
 }
 
-#[derive(Drop)]
+#[derive(Clone, Copy)]
 pub struct ModifyOrderRead {
     pub answer: Answer,
     pub body: ModifyOrder,

@@ -10,7 +10,7 @@ use wire::messages::REPLACE_ORDER;
 use wire::shares::{Removed, Total};
 use wire::spelling::{put_integer, put_letter, put_token, started};
 
-#[derive(Drop)]
+#[derive(Clone, Copy)]
 pub struct ReplaceOrder {
     pub existing: [u8; 14],
     pub replacement: [u8; 14],
@@ -22,7 +22,7 @@ pub struct ReplaceOrder {
     pub minimum: Removed,
 }
 
-#[derive(Drop)]
+#[derive(Clone, Copy)]
 pub struct ReplaceOrderRead {
     pub answer: Answer,
     pub body: ReplaceOrder,

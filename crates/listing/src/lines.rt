@@ -11,7 +11,7 @@ pub const FIRST_LINE: [u8; 23] = *b"entry kind answer sent\n";
 pub(crate) const WIDTH: usize = 144;
 
 // A line is the first `len` of the bytes.
-#[derive(Drop)]
+#[derive(Clone, Copy)]
 pub struct Shown {
     pub bytes: [u8; WIDTH],
     pub len: usize,

@@ -28,7 +28,7 @@ use wire::messages::{
 use wire::shares::Removed;
 
 // A message at the front of 80 bytes; the zeros behind it are not sent.
-#[derive(Drop)]
+#[derive(Clone, Copy)]
 pub struct Sent {
     pub bytes: [u8; 80],
     pub len: usize,

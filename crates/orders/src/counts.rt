@@ -6,7 +6,7 @@ ghost use Rattle.orders.specs.Counts.{gone, open_shares, with_liable, cut, execu
 use wire::shares::{Removed, Total};
 
 // Totals all; `matched` are the self-matched shares.
-#[derive(Drop)]
+#[derive(Clone, Copy)]
 pub struct Counts {
     pub liable: Total,
     pub executed: Total,

@@ -2,7 +2,7 @@
 ghost use Rattle.std.specs.Prelude.{◌≡◌};
 ghost use Rattle.orders.specs.Flags.{bit_of, has_flag, set_flag, clear_flag};
 
-#[derive(Drop)]
+#[derive(Clone, Copy)]
 pub enum Flag {
     Late,
     Pending,

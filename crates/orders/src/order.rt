@@ -7,7 +7,7 @@ use crate::flags::{Flag, clear_flag, has_flag, set_flag};
 use wire::shares::{Removed, Total};
 
 // What a replacement takes from the order that it replaces, beside the side.
-#[derive(Drop)]
+#[derive(Clone, Copy)]
 pub struct Kept {
     pub stock: [u8; 8],
     pub firm: [u8; 4],
@@ -16,7 +16,7 @@ pub struct Kept {
 }
 
 // What a replacement brings anew, beside the shares. The price is a number: a record is not judged for it, so it need not be a `Price`.
-#[derive(Drop)]
+#[derive(Clone, Copy)]
 pub struct Terms {
     pub price: u32,
     pub time: u32,
@@ -26,7 +26,7 @@ pub struct Terms {
 }
 
 // What most rules only carry. `spare` is byte 79, which nobody judges in a live or dead record.
-#[derive(Drop)]
+#[derive(Clone, Copy)]
 pub struct Details {
     pub kept: Kept,
     pub terms: Terms,
@@ -35,7 +35,7 @@ pub struct Details {
     pub spare: u8,
 }
 
-#[derive(Drop)]
+#[derive(Clone, Copy)]
 pub struct Order {
     pub state: u8,
     pub token: [u8; 14],

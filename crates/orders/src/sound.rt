@@ -17,7 +17,7 @@ use wire::text::is_token_byte;
 pub const MOST_SHARES: u32 = 999_999;
 
 // What judging a record finds: whether it is sound, and what is open of it if it is.
-#[derive(Drop)]
+#[derive(Clone, Copy)]
 pub struct Verdict {
     pub ok: bool,
     pub shares: Removed,

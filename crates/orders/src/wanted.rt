@@ -10,14 +10,14 @@ use crate::live::lives;
 use octets::{byte_at, same_at};
 
 // What of an order is looked at.
-#[derive(Drop)]
+#[derive(Clone, Copy)]
 pub enum By {
     Firm,
     // and the stock
     Stock,
 }
 
-#[derive(Drop)]
+#[derive(Clone, Copy)]
 pub struct Wanted {
     pub by: By,
     pub firm: [u8; 4],

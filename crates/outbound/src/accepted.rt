@@ -11,7 +11,7 @@ use wire::judge::judge;
 use wire::messages::ACCEPTED;
 use wire::spelling::put_letter;
 
-#[derive(Drop)]
+#[derive(Clone, Copy)]
 pub struct Accepted {
     pub stamp: u64,
     pub token: [u8; 14],
@@ -19,7 +19,7 @@ pub struct Accepted {
     pub weight: u8,
 }
 
-#[derive(Drop)]
+#[derive(Clone, Copy)]
 pub struct AcceptedRead {
     pub answer: Answer,
     pub body: Accepted,

@@ -11,7 +11,7 @@ use wire::messages::AIQ_CANCELLED;
 use wire::shares::Removed;
 use wire::spelling::{put_integer, put_letter};
 
-#[derive(Drop)]
+#[derive(Clone, Copy)]
 pub struct AiqCancelled {
     pub stamp: u64,
     pub token: [u8; 14],
@@ -22,7 +22,7 @@ pub struct AiqCancelled {
     pub flag: u8,
 }
 
-#[derive(Drop)]
+#[derive(Clone, Copy)]
 pub struct AiqCancelledRead {
     pub answer: Answer,
     pub body: AiqCancelled,

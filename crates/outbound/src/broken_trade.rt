@@ -10,7 +10,7 @@ use wire::judge::judge;
 use wire::messages::BROKEN_TRADE;
 use wire::spelling::{put_letter, put_long};
 
-#[derive(Drop)]
+#[derive(Clone, Copy)]
 pub struct BrokenTrade {
     pub stamp: u64,
     pub token: [u8; 14],
@@ -18,7 +18,7 @@ pub struct BrokenTrade {
     pub reason: u8,
 }
 
-#[derive(Drop)]
+#[derive(Clone, Copy)]
 pub struct BrokenTradeRead {
     pub answer: Answer,
     pub body: BrokenTrade,

@@ -9,13 +9,13 @@ use wire::frame::{legal_or_zeros, send};
 use wire::judge::judge;
 use wire::messages::CANCEL_PENDING;
 
-#[derive(Drop)]
+#[derive(Clone, Copy)]
 pub struct CancelPending {
     pub stamp: u64,
     pub token: [u8; 14],
 }
 
-#[derive(Drop)]
+#[derive(Clone, Copy)]
 pub struct CancelPendingRead {
     pub answer: Answer,
     pub body: CancelPending,

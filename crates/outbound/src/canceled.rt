@@ -11,7 +11,7 @@ use wire::messages::CANCELED;
 use wire::shares::Removed;
 use wire::spelling::{put_integer, put_letter};
 
-#[derive(Drop)]
+#[derive(Clone, Copy)]
 pub struct Canceled {
     pub stamp: u64,
     pub token: [u8; 14],
@@ -19,7 +19,7 @@ pub struct Canceled {
     pub reason: u8,
 }
 
-#[derive(Drop)]
+#[derive(Clone, Copy)]
 pub struct CanceledRead {
     pub answer: Answer,
     pub body: Canceled,

@@ -11,7 +11,7 @@ use wire::messages::EXECUTED;
 use wire::shares::Removed;
 use wire::spelling::{put_integer, put_letter, put_long};
 
-#[derive(Drop)]
+#[derive(Clone, Copy)]
 pub struct Executed {
     pub stamp: u64,
     pub token: [u8; 14],
@@ -21,7 +21,7 @@ pub struct Executed {
     pub match_number: u64,
 }
 
-#[derive(Drop)]
+#[derive(Clone, Copy)]
 pub struct ExecutedRead {
     pub answer: Answer,
     pub body: Executed,

@@ -11,7 +11,7 @@ use wire::messages::MODIFIED;
 use wire::shares::Removed;
 use wire::spelling::{put_integer, put_letter};
 
-#[derive(Drop)]
+#[derive(Clone, Copy)]
 pub struct Modified {
     pub stamp: u64,
     pub token: [u8; 14],
@@ -19,7 +19,7 @@ pub struct Modified {
     pub shares: Removed,
 }
 
-#[derive(Drop)]
+#[derive(Clone, Copy)]
 pub struct ModifiedRead {
     pub answer: Answer,
     pub body: Modified,

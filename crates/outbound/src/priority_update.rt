@@ -10,7 +10,7 @@ use wire::judge::judge;
 use wire::messages::PRIORITY_UPDATE;
 use wire::spelling::{put_integer, put_letter, put_long};
 
-#[derive(Drop)]
+#[derive(Clone, Copy)]
 pub struct PriorityUpdate {
     pub stamp: u64,
     pub token: [u8; 14],
@@ -19,7 +19,7 @@ pub struct PriorityUpdate {
     pub reference: u64,
 }
 
-#[derive(Drop)]
+#[derive(Clone, Copy)]
 pub struct PriorityUpdateRead {
     pub answer: Answer,
     pub body: PriorityUpdate,

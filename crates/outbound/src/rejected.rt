@@ -10,14 +10,14 @@ use wire::judge::judge;
 use wire::messages::REJECTED;
 use wire::spelling::put_letter;
 
-#[derive(Drop)]
+#[derive(Clone, Copy)]
 pub struct Rejected {
     pub stamp: u64,
     pub token: [u8; 14],
     pub reason: u8,
 }
 
-#[derive(Drop)]
+#[derive(Clone, Copy)]
 pub struct RejectedRead {
     pub answer: Answer,
     pub body: Rejected,

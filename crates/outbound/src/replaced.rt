@@ -11,7 +11,7 @@ use wire::judge::judge;
 use wire::messages::REPLACED;
 use wire::spelling::{put_letter, put_token};
 
-#[derive(Drop)]
+#[derive(Clone, Copy)]
 pub struct Replaced {
     pub stamp: u64,
     pub token: [u8; 14],
@@ -20,7 +20,7 @@ pub struct Replaced {
     pub weight: u8,
 }
 
-#[derive(Drop)]
+#[derive(Clone, Copy)]
 pub struct ReplacedRead {
     pub answer: Answer,
     pub body: Replaced,

@@ -7,7 +7,7 @@ ghost use Rattle.outbound.specs.Outbound.{stated_of, stated_values};
 use wire::shares::Removed;
 use wire::spelling::{put_firm, put_integer, put_letter, put_long, put_stock};
 
-#[derive(Drop)]
+#[derive(Clone, Copy)]
 pub struct Stated {
     pub side: u8,
     pub shares: Removed,

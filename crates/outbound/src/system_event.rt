@@ -9,13 +9,13 @@ use wire::judge::judge;
 use wire::messages::SYSTEM_EVENT;
 use wire::spelling::{put_letter, put_long, started};
 
-#[derive(Drop)]
+#[derive(Clone, Copy)]
 pub struct SystemEvent {
     pub stamp: u64,
     pub event: u8,
 }
 
-#[derive(Drop)]
+#[derive(Clone, Copy)]
 pub struct SystemEventRead {
     pub answer: Answer,
     pub body: SystemEvent,

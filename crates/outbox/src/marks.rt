@@ -8,7 +8,7 @@ pub const SHORTEST_RING: usize = 80;
 
 pub const LONGEST_RING: usize = 65_536;
 
-#[derive(Drop)]
+#[derive(Clone, Copy)]
 pub struct Marks {
     // the read place, below the ring's length
     pub at: usize,
@@ -17,7 +17,7 @@ pub struct Marks {
 }
 
 // What a put or a release answers, with the marks after it.
-#[derive(Drop)]
+#[derive(Clone, Copy)]
 pub struct Moved {
     pub answer: Answer,
     pub marks: Marks,

@@ -8,7 +8,7 @@ use wire::frame::taken;
 use wire::judge::is_framed;
 use wire::places::{answer_for, bad_blank, bad_nonzero, earlier};
 
-#[derive(Drop)]
+#[derive(Clone, Copy)]
 pub struct MassCancel {
     pub user_reference: u32,
     pub firm: [u8; 4],
@@ -17,7 +17,7 @@ pub struct MassCancel {
     pub appendage_length: u16,
 }
 
-#[derive(Drop)]
+#[derive(Clone, Copy)]
 pub struct MassCancelRead {
     pub answer: Answer,
     pub body: MassCancel,

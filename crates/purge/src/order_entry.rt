@@ -13,14 +13,14 @@ pub const DISABLE: u8 = b'D';
 
 pub const ENABLE: u8 = b'E';
 
-#[derive(Drop)]
+#[derive(Clone, Copy)]
 pub struct OrderEntry {
     pub user_reference: u32,
     pub firm: [u8; 4],
     pub account: [u8; 6],
 }
 
-#[derive(Drop)]
+#[derive(Clone, Copy)]
 pub struct OrderEntryRead {
     pub answer: Answer,
     pub body: OrderEntry,

@@ -31,14 +31,14 @@ use words::{REFUSAL, Words, table_length, typed};
 const BLOCKED: u8 = 9;
 
 // How much the ring's reader takes between two offers, and whether the ring is drawn.
-#[derive(Drop)]
+#[derive(Clone, Copy)]
 struct Reader {
     takes: usize,
     draws: bool,
 }
 
 // What the entries so far came to. No tape is long enough for a count to wrap.
-#[derive(Drop)]
+#[derive(Clone, Copy)]
 struct Tally {
     marks: Marks,
     entries: u64,
@@ -50,7 +50,7 @@ struct Tally {
     printed: bool,
 }
 
-#[derive(Drop)]
+#[derive(Clone, Copy)]
 struct Run {
     feed: Feed,
     tally: Tally,

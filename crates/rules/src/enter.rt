@@ -24,7 +24,7 @@ use wire::text::is_shaped;
 pub const LONGEST_TIME: u32 = 99_999;
 
 // Why an entered order is rejected: the letter of its Rejected Message. If there is no reason, its price is one that an order may have.
-#[derive(Drop)]
+#[derive(Clone, Copy)]
 pub enum Fault {
     Letter(u8),
     Absent(Price),

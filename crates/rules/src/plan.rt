@@ -8,7 +8,7 @@ use tape::entry::{Execution, SelfMatch, StockState};
 use wire::shares::Removed;
 
 // What is told, beside the stamp and what the plan's orders hold.
-#[derive(Drop)]
+#[derive(Clone, Copy)]
 pub enum Notice {
     Silent,
     SystemEvent(u8),
@@ -24,7 +24,7 @@ pub enum Notice {
     Modified,
 }
 
-#[derive(Drop)]
+#[derive(Clone, Copy)]
 pub enum Begins {
     Nothing,
     // the day's number in the header from now on
@@ -34,7 +34,7 @@ pub enum Begins {
 }
 
 // All that a done entry changes beside the last stamp. An order of state 0 stands for none, and so does a stock.
-#[derive(Drop)]
+#[derive(Clone, Copy)]
 pub struct Plan {
     pub begins: Begins,
     // the order that the entry names, as it is afterwards; none if it stays as it is
@@ -49,7 +49,7 @@ pub struct Plan {
 }
 
 // The plan is carried out where the answer is Done.
-#[derive(Drop)]
+#[derive(Clone, Copy)]
 pub struct Decision {
     pub answer: Answer,
     pub plan: Plan,

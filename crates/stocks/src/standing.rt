@@ -2,7 +2,7 @@
 ghost use Rattle.std.specs.Prelude.{◌≡◌};
 ghost use Rattle.stocks.specs.Standing.{is_listed, is_halted};
 
-#[derive(Drop)]
+#[derive(Clone, Copy)]
 pub enum Standing {
     Trading,
     Halted,

@@ -25,7 +25,7 @@ use words::{REFUSAL, Words, table_length, typed};
 const BLOCKED: u8 = 9;
 
 // The marks after bytes were written, how many more the reader takes, and whether all went out.
-#[derive(Drop)]
+#[derive(Clone, Copy)]
 struct Sending {
     marks: Marks,
     takes: usize,
@@ -33,7 +33,7 @@ struct Sending {
 }
 
 // What is carried from offer to offer.
-#[derive(Drop)]
+#[derive(Clone, Copy)]
 struct Run {
     feed: Feed,
     marks: Marks,

@@ -10,7 +10,7 @@ use bitrow::ones;
 use header::TABLE_FORM;
 use octets::byte_at;
 
-#[derive(Drop)]
+#[derive(Clone, Copy)]
 pub struct Tally {
     pub answer: Answer,
     // how many orders are live

@@ -9,7 +9,7 @@ ghost use Rattle.table.specs.Walk.{found_in};
 use crate::places::record_at;
 use orders::sound::judge_record;
 
-#[derive(Drop)]
+#[derive(Clone, Copy)]
 pub struct Found {
     pub ok: bool,
     // how much is open, if all are sound

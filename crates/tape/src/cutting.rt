@@ -5,7 +5,7 @@ ghost use Rattle.tape.specs.Cutting.{cut_at};
 use crate::kinds::entry_length;
 
 // What stands at a place of a tape.
-#[derive(Drop)]
+#[derive(Clone, Copy)]
 pub enum Cut {
     // an entry of a known kind, all of it there; it ends before this place
     Whole(usize),

@@ -1,7 +1,7 @@
 // What the engine's entries say beside stamp and token. (O, U, X and M carry the inbound messages, and are read as those.)
 use wire::shares::Removed;
 
-#[derive(Drop)]
+#[derive(Clone, Copy)]
 pub struct Execution {
     pub shares: Removed,
     pub price: u32,
@@ -9,13 +9,13 @@ pub struct Execution {
     pub match_number: u64,
 }
 
-#[derive(Drop)]
+#[derive(Clone, Copy)]
 pub struct BookCancel {
     pub shares: Removed,
     pub reason: u8,
 }
 
-#[derive(Drop)]
+#[derive(Clone, Copy)]
 pub struct SelfMatch {
     pub shares: Removed,
     pub prevented: Removed,
@@ -23,32 +23,32 @@ pub struct SelfMatch {
     pub flag: u8,
 }
 
-#[derive(Drop)]
+#[derive(Clone, Copy)]
 pub struct Priority {
     pub price: u32,
 }
 
-#[derive(Drop)]
+#[derive(Clone, Copy)]
 pub struct System {
     pub event: u8,
 }
 
 // A stock is to trade or to be halted.
-#[derive(Drop)]
+#[derive(Clone, Copy)]
 pub struct StockState {
     pub symbol: [u8; 8],
     pub state: u8,
 }
 
 // A firm's orders are to go, in one symbol or, where that is eight spaces, in all.
-#[derive(Drop)]
+#[derive(Clone, Copy)]
 pub struct Purge {
     pub firm: [u8; 4],
     pub symbol: [u8; 8],
 }
 
 // A firm's new orders are to be kept out, or let in again.
-#[derive(Drop)]
+#[derive(Clone, Copy)]
 pub struct Blocking {
     pub firm: [u8; 4],
 }

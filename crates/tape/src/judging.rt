@@ -43,7 +43,7 @@ fn first_bad(entry: &[u8], kind: Kind) -> usize
 }
 
 // The judged fields behind the stamp: what they are and, where that differs from kind to kind, where they stand.
-#[derive(Drop)]
+#[derive(Clone, Copy)]
 pub enum Behind {
     // what a client sends, judged as the message that it is
     Message(usize),

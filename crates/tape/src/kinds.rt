@@ -3,7 +3,7 @@ ghost use Rattle.std.specs.Prelude.{◌≡◌};
 ghost use Rattle.tape.specs.Kinds.{kind_by, kind_of, kind_place, layout_of, entry_length};
 
 // By what an entry does, in the order O U X M e c q p l f s h w d n; the last is every other byte.
-#[derive(Drop)]
+#[derive(Clone, Copy)]
 pub enum Kind {
     Enters,
     Replaces,

@@ -4,11 +4,11 @@ ghost use Rattle.wire.specs.Price.{priced_of};
 
 use crate::letters::is_opening_or_closing;
 
-#[derive(Drop)]
+#[derive(Clone, Copy)]
 pub struct Price(pub u32);
 
 // What making a price comes to.
-#[derive(Drop)]
+#[derive(Clone, Copy)]
 pub enum Priced {
     Good(Price),
     Bad,

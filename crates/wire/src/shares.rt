@@ -4,11 +4,11 @@ ghost use Rattle.std.specs.Prelude.{◌≡◌, ◌+◌, ◌<◌, ◌^◌};
 ghost use Rattle.wire.specs.Shares.{◌is_below◌, ◌equals◌, ◌less◌, ◌grown_by◌, ◌cut_by◌, ◌exceeds◌, ◌minus◌};
 
 // Liable, executed, self-matched, an intended size, the Shares of O, U and M, a threshold.
-#[derive(Drop)]
+#[derive(Clone, Copy)]
 pub struct Total(pub u32);
 
 // A decrement, an execution, what is open, a minimum.
-#[derive(Drop)]
+#[derive(Clone, Copy)]
 pub struct Removed(pub u32);
 
 impl Total {

@@ -20,7 +20,7 @@ use table::sound::{MOST_RECORDS, table_size};
 pub const REFUSAL: [u8; 84] =
     *b"the words are ring N (80 to 65536), release K (1 to 65536) and records N (1 to 800)\n";
 
-#[derive(Drop)]
+#[derive(Clone, Copy)]
 pub struct Words {
     pub ring: usize,
     // how many bytes the reader takes between two offers
@@ -29,7 +29,7 @@ pub struct Words {
 }
 
 // `good` says that every word so far was understood.
-#[derive(Drop)]
+#[derive(Clone, Copy)]
 pub struct Heard {
     pub words: Words,
     pub good: bool,
@@ -54,7 +54,7 @@ pub fn table_length(words: Words) -> usize
     table_size(words.records)
 }
 
-#[derive(Drop)]
+#[derive(Clone, Copy)]
 pub(crate) enum Word {
     Ring,
     Release,
