@@ -1,0 +1,8 @@
+-- The text is judged as a whole. Assumes nothing.
+use Rattle.octets.proofs.Proving.{rules, unasked}
+use Rattle.wire.specs.Layout.{bad_place}
+use Rattle.wire.proofs.places.bad_blank.Goals as goal
+
+pub returns : goal.returns
+unfolding bad_place
+returns c = rw (c.bad_unless.ensures, c.are_all.ensures)
