@@ -1,0 +1,8 @@
+-- Liable is cut, and the other counts stay. Assumes nothing.
+use Rattle.octets.proofs.Needs.{unasked}
+use Rattle.orders.specs.Counts.{cut}
+use Rattle.orders.proofs.counts.cut.Goals as goal
+
+pub returns : goal.returns
+unfolding cut
+returns c = cc

@@ -1,0 +1,8 @@
+-- Each field is read at its layout's offset.
+use Rattle.orders.specs.Order.{order_of}
+use borrow.Author.Rules.{rules}
+use Rattle.orders.proofs.record.kept_of.Goals as goal
+
+pub returns : goal.returns
+unfolding order_of
+returns c = rw (c.bytes8_at-stock.ensures, c.bytes4_at-firm.ensures, c.byte_at.ensures, c.byte_at-2.ensures)
