@@ -1,0 +1,12 @@
+-- The bit of the place is changed where a firm is listed there. Assumes nothing.
+use Rattle.octets.proofs.Proving.{arith, le-ltb, lt-ltb, rules, unasked}
+use Rattle.header.specs.Firms.{blocked_with}
+use Rattle.header.proofs.firms.blocked_with.Goals as goal
+
+pub returns-then-place-least : goal.returns-then-place-least
+unfolding blocked_with
+returns-then-place-least c = rw (c.with_bit.ensures, ← c.least.ensures, lt-ltb _ _ c.if-place-least.true)
+
+pub returns : goal.returns
+unfolding blocked_with
+returns c = rw (← c.least.ensures, le-ltb _ _ c.if-place-least.false)

@@ -1,0 +1,22 @@
+-- Each field is put right behind the last one. Assumes nothing.
+use Rattle.octets.proofs.Proving.{arith, rules, refl}
+use Rattle.wire.specs.Layout.{unbroken}
+use Rattle.wire.specs.Layout.{◌then◌, ends}
+use Rattle.wire.proofs.Puts.{puts-at}
+use Rattle.header.specs.Runs.{moment_fields, moment_values, moments}
+use Rattle.header.proofs.put_moments.Goals as goal
+
+pub returns : goal.returns
+unfolding moments unbroken
+returns c =
+    let p6 = c in
+    let p5 = p6 in
+    let p4 = p5 in
+    let p3 = p4 in
+    let p2 = p3 in
+    let p1 = p2 in
+    let start = p1 in
+    let put = puts-at moment_fields (moment_values start.args.h) start.args.s.now
+    (p1.put_byte.ensures then p2.put_byte-2.ensures then p3.put_byte-3.ensures then p4.put_byte-4.ensures then p5.put_be32.ensures then p6.put_be64.ensures then ends)
+    0 16 refl (omega (arith, start.requires)) in
+    (put.0, omega (arith, put.1))

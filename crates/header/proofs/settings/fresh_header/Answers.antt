@@ -1,0 +1,8 @@
+-- Field by field. Assumes nothing.
+use Rattle.octets.proofs.Proving.{rules, unasked}
+use Rattle.header.specs.Settings.{fresh_header}
+use Rattle.header.proofs.settings.fresh_header.Goals as goal
+
+pub returns : goal.returns
+unfolding fresh_header
+returns c = cc

@@ -1,0 +1,8 @@
+-- Each field is what its leaf reads at its offset. Assumes nothing.
+use Rattle.purge.proofs.Codec.{rules, mass_cancel_of}
+use Rattle.purge.proofs.mass_cancel.parse_mass_cancel.Goals as goal
+
+pub returns : goal.returns
+unfolding mass_cancel_of
+returns c = rw (c.be16.ensures, c.bytes8_at.ensures, c.bytes6_at.ensures)
+    (rw (c.bytes4_at.ensures, c.be32.ensures))

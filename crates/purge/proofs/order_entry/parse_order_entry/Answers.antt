@@ -1,0 +1,7 @@
+-- Each field is what its leaf reads at its offset. Assumes nothing.
+use Rattle.purge.proofs.Codec.{rules, order_entry_of}
+use Rattle.purge.proofs.order_entry.parse_order_entry.Goals as goal
+
+pub returns : goal.returns
+unfolding order_entry_of
+returns c = rw (c.bytes6_at.ensures, c.bytes4_at.ensures, c.be32.ensures)
