@@ -1,0 +1,50 @@
+-- The loop's invariant: the first record with the token is still ahead. The measure is what is left of n.
+use Rattle.octets.proofs.Proving.{◌+◌, ◌-◌, ◌≡◌, ◌≤◌, answered, arith, rules}
+use Rattle.octets.proofs.First.{Ahead, ahead-start, ahead-found, ahead-next, ahead-end}
+use Rattle.table.specs.Table.{records_in, has_token}
+use Rattle.table.proofs.find.first.Goals as goal
+use Rattle.table.proofs.find.first.Goals.{Else-has_token}
+
+-- the first of a turn's two records does not have it
+second : (c : Else-has_token) → let a = c.args in
+    Ahead a.n (has_token a.table.now a.token) (c.loop-i.i + 1)
+second c =
+    let l = c.loop-i in
+    ahead-next _ _ l.i l.invariant.1 (omega arith) (answered c.has_token.ensures c.if-has_token.false)
+
+pub loop-i-init : goal.loop-i-init
+loop-i-init c = (omega arith, ahead-start _ _)
+
+pub overflow_add-i : goal.overflow_add-i
+unfolding records_in
+overflow_add-i c = omega arith
+
+pub returns-then-has_token : goal.returns-then-has_token
+returns-then-has_token c =
+    let l = c.loop-i in
+    ahead-found _ _ l.i l.invariant.1 (omega arith) (answered c.has_token.ensures c.if-has_token.true)
+
+pub returns-then-has_token-2 : goal.returns-then-has_token-2
+returns-then-has_token-2 c =
+    ahead-found _ _ _ (second (goal.at.returns-then-has_token-2 c).Else-has_token) (omega arith) (answered c.has_token-in-loop-i.ensures c.if-has_token-2.true)
+
+pub loop-i-preserved : goal.loop-i-preserved
+loop-i-preserved c =
+    let l = c.loop-i in
+    let e : l.i + 1 + 1 ≡ l.i + 2 = omega arith in
+    (omega arith, rw (← e) (ahead-next _ _ _ (second (goal.at.loop-i-preserved c).Else-has_token) (omega arith) (answered c.has_token-in-loop-i.ensures c.if-has_token-2.false)))
+
+pub returns-then-has_token-3 : goal.returns-then-has_token-3
+returns-then-has_token-3 c =
+    let l = c.loop-i in
+    ahead-found _ _ l.i l.invariant.1 (omega arith) (answered c.has_token-then-i-n.ensures c.if-has_token-3.true)
+
+pub returns-else-has_token-3 : goal.returns-else-has_token-3
+returns-else-has_token-3 c =
+    let l = c.loop-i in
+    ahead-end _ _ (l.i + 1) (ahead-next _ _ l.i l.invariant.1 (omega arith) (answered c.has_token-then-i-n.ensures c.if-has_token-3.false)) (omega arith)
+
+pub returns-else-i-n : goal.returns-else-i-n
+returns-else-i-n c =
+    let l = c.loop-i in
+    ahead-end _ _ l.i l.invariant.1 (omega arith)

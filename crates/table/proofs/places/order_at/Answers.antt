@@ -1,0 +1,8 @@
+-- The order is read from its own part. Assumes nothing.
+use borrow.Author.Rules.{rules}
+use Rattle.table.specs.Table.{order_at}
+use Rattle.table.proofs.places.order_at.Goals as goal
+
+pub returns : goal.returns
+unfolding order_at
+returns c = cc

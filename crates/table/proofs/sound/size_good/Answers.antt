@@ -1,0 +1,16 @@
+-- The number of records is asked first, so that the length that it should have does not overflow. Assumes nothing.
+use Rattle.octets.proofs.Proving.{leb, leb-true, unasked}
+use Rattle.octets.proofs.Below.{both}
+use Rattle.table.specs.Limits.{fewest_records, most_records}
+use Rattle.table.specs.Table.{size_good}
+use Rattle.table.proofs.sound.size_good.Goals as goal
+
+pub returns-then-n : goal.returns-then-n
+unfolding size_good
+returns-then-n c =
+    let asked = c in
+    rw (← asked.records_in-n.ensures, c.if-n.true, c.table_size.ensures)
+
+pub returns : goal.returns
+unfolding size_good
+returns c = rw (← c.records_in-n.ensures, c.if-n.false)

@@ -1,0 +1,8 @@
+-- Each field is what its leaf says. Assumes nothing.
+use borrow.Author.Rules.{rules}
+use Rattle.tape.specs.Entries.{priority_of}
+use Rattle.tape.proofs.reading.priority_of.Goals as goal
+
+pub returns : goal.returns
+unfolding priority_of
+returns c = cc

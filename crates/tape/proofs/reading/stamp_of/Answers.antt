@@ -1,0 +1,8 @@
+-- Each field is what its leaf says. Assumes nothing.
+use borrow.Author.Rules.{rules}
+use Rattle.tape.specs.Entries.{stamp_of}
+use Rattle.tape.proofs.reading.stamp_of.Goals as goal
+
+pub returns : goal.returns
+unfolding stamp_of
+returns c = cc
