@@ -87,7 +87,7 @@ returns c =
     (sym (look_none _ here l.left l.invariant.1 c.loop-left-test.false) ∙ ap (λ (b : ℕ). first_below 8 (λ j. bit_of b j && here j)) l.invariant.0 ∙ among-row (bit_bytes t) at here)
 
 pub overflow_mul-result : goal.overflow_mul-result
-overflow_mul-result c = mul-wanted-at (goal.at.overflow_mul-result c).After-lowest-k
+overflow_mul-result c = overflow_mul-at (goal.at.overflow_mul-result c).After-lowest-k
 
 pub overflow_add-result : goal.overflow_add-result
-overflow_add-result c = add-wanted-at (goal.at.overflow_add-result c).After-lowest-k
+overflow_add-result c = overflow_add-at (goal.at.overflow_add-result c).After-lowest-k

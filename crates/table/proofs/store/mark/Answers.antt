@@ -37,7 +37,7 @@ returns c =
     let set = c.set_bit.ensures ∙ ap (λ (b : List ℕ). with_bit_at b start.args.i start.args.live) (sym lent) in
     let long : length row ≡ m = length-with (bit_bytes t) start.args.i start.args.live ∙ rw (← there.records_in.ensures) at (bits-long t) in
     let whole : at + m - at ≡ m = omega arith in
-    let is-put = subst (λ (k : ℕ). take at t ++ (c.set_bit.new.0 ++ drop k (drop at t)) ≡ put t at row) whole (put-lent t at m row _ set long) in
+    let is-put = subst (λ (k : ℕ). take at t ++ (c.set_bit.new.bits ++ drop k (drop at t)) ≡ put t at row) whole (put-lent t at m row _ set long) in
     let same = length-put t at row (omega (arith, long, behind there)) in
     (rw (← there.records_in.ensures) is-put, subst (λ (u : List ℕ). 64 ≤ length u) (sym is-put) (omega (arith, same, behind there)))
 
