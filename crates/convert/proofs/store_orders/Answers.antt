@@ -1,0 +1,36 @@
+-- The loop's invariant: the first i orders are stored, and the table is as long as it was. The measure is what is left of n. Assumes nothing.
+use Rattle.octets.proofs.Proving.{List, ◌+◌, ◌-◌, ◌∙◌, ◌≡◌, ◌≤◌, add-one, ap, arith, length, rules, refl, sym, unasked, ℕ}
+use Rattle.table.specs.Table.{order_at, store_order}
+use Rattle.orders.specs.Order.{order_of}
+use Rattle.orders.specs.declared.order.Order.{Order}
+use Rattle.convert.specs.Convert.{with_orders}
+use Rattle.convert.proofs.Former.{old-fits}
+use Rattle.convert.proofs.store_orders.Goals as goal
+
+-- one order more
+order-next : (old t u : List ℕ) (i : ℕ) (o : Order) → u ≡ store_order (with_orders old i t) i o → o ≡ order_at old i → u ≡ with_orders old (i + 1) t
+unfolding with_orders
+order-next old t u i o stored read =
+    stored ∙ ap (store_order (with_orders old i t) i) read ∙ ap (λ (k : ℕ). with_orders old k t) (sym (add-one i))
+
+pub loop-i-init : goal.loop-i-init
+unfolding with_orders
+loop-i-init c = (omega arith, refl, refl)
+
+pub record_at-requires : goal.record_at-requires
+record_at-requires c =
+    let start = c in
+    old-fits start.args.old.now c.loop-i.i (omega (arith, start.requires))
+
+pub loop-i-preserved : goal.loop-i-preserved
+unfolding order_at
+loop-i-preserved c =
+    let stored = c in
+    let read = stored in
+    let l = read.loop-i in
+    let a = read.args in (
+      omega arith,
+      omega arith,
+      order-next a.old.now a.table.now _ l.i _ (stored.store_order.ensures ∙ ap (λ (t : List ℕ). store_order t l.i read.order_of.result) l.invariant.2)
+          (read.order_of.ensures ∙ ap order_of read.record_at.ensures.0),
+    )

@@ -1,0 +1,8 @@
+-- Test for test. Assumes nothing.
+use Rattle.octets.proofs.Needs.{unasked}
+use Rattle.rules.specs.Enter.{bad_display}
+use Rattle.rules.proofs.enter.bad_display.Goals as goal
+
+pub returns : goal.returns
+unfolding bad_display
+returns c = cc

@@ -1,0 +1,8 @@
+-- Test for test. Assumes nothing.
+use Rattle.octets.proofs.Needs.{unasked}
+use Rattle.rules.specs.Enter.{bad_shares}
+use Rattle.rules.proofs.enter.bad_shares.Goals as goal
+
+pub returns : goal.returns
+unfolding bad_shares
+returns c = cc

@@ -1,0 +1,8 @@
+-- The one constructor, with what this decision says. Assumes nothing.
+use Rattle.octets.proofs.Needs.{unasked}
+use Rattle.rules.specs.Plan.{refused}
+use Rattle.rules.proofs.plan.refused.Goals as goal
+
+pub returns : goal.returns
+unfolding refused
+returns c = cc

@@ -1,0 +1,15 @@
+-- A refused message answers, and nothing changes; of one that is let through the entry is made. Assumes nothing.
+use Rattle.octets.proofs.Proving.{◌∙◌, answered, rules, sym, unasked}
+use Rattle.answers.proofs.Laws.{is-done}
+use Rattle.stamping.proofs.Answers.{refused}
+use Rattle.stamping.proofs.stamped.Goals as goal
+
+pub made-requires : goal.made-requires
+made-requires c =
+    let heard = c.heard-answer in
+    sym heard.ensures ∙ is-done heard.result (answered c.is_done.ensures c.if-is_done.true)
+
+pub returns : goal.returns
+returns c =
+    let a = c.args in
+    refused a.purge a.stamp a.message.now a.entry.now c.heard-answer.ensures (answered c.is_done.ensures c.if-is_done.false)
