@@ -16,10 +16,10 @@ pub renewed-head-requires : goal.renewed-head-requires
 renewed-head-requires c = old-there c.args.old.now (answered c.size_good.ensures c.if-size_good.true)
 
 pub byte_at-requires : goal.byte_at-requires
-byte_at-requires c = omega (arith, renewed-head-requires (goal.at.byte_at-requires c).Then-size_good κs)
+byte_at-requires c = omega (arith, renewed-head-requires (goal.at.byte_at-requires c).Then-size_good)
 
 pub are_zero-requires : goal.are_zero-requires
-are_zero-requires c = omega (arith, renewed-head-requires (goal.at.are_zero-requires c).Then-size_good κs)
+are_zero-requires c = omega (arith, renewed-head-requires (goal.at.are_zero-requires c).Then-size_good)
 
 pub returns-then-size_good : goal.returns-then-size_good
 unfolding old_sound

@@ -26,7 +26,7 @@ returns-else-held-n c =
 pub returns-else-ring_good : goal.returns-else-ring_good
 unfolding read_run read_place
 returns-else-ring_good c =
-    let start = c.args.ring.ptr in
+    let start = c.args.ring.ref_ptr in
     simp (sym c.ring_good.ensures ∙ c.if-ring_good.false) (refl, ap (λ (o : ℕ). (start.0, o)) (sym (zero-add start.1)))
 
 pub overflow_sub-n : goal.overflow_sub-n

@@ -14,7 +14,7 @@ unfolding replace_rule
 returns-then-not-is_open_day c =
     let p = c in
     let u = p in
-    rw (← u.is_live.ensures, ← u.is_used.ensures, p.if-is_live-is_used.false, denied c.is_open_day.ensures c.if-not-is_open_day.true) cc
+    rw (← u.is_live.ensures, ← u.is_used.ensures, p.if-is_live-is_used.false, answered c.is_open_day.ensures c.if-not-is_open_day.true) cc
 
 pub returns-then-is : goal.returns-then-is
 unfolding replace_rule
@@ -22,7 +22,7 @@ returns-then-is c =
     let d = c in
     let p = d in
     let u = p in
-    rw (← u.is_live.ensures, ← u.is_used.ensures, p.if-is_live-is_used.false, denied d.is_open_day.ensures c.if-not-is_open_day.false, answered c.is.ensures c.if-is.true) cc
+    rw (← u.is_live.ensures, ← u.is_used.ensures, p.if-is_live-is_used.false, answered d.is_open_day.ensures c.if-not-is_open_day.false, answered c.is.ensures c.if-is.true) cc
 
 pub returns-then-is_halted : goal.returns-then-is_halted
 unfolding replace_rule
@@ -31,7 +31,7 @@ returns-then-is_halted c =
     let d = f in
     let p = d in
     let u = p in
-    rw (← u.is_live.ensures, ← u.is_used.ensures, p.if-is_live-is_used.false, denied d.is_open_day.ensures f.if-not-is_open_day.false, answered f.is.ensures f.if-is.false, answered c.is_halted.ensures c.if-is_halted.true) cc
+    rw (← u.is_live.ensures, ← u.is_used.ensures, p.if-is_live-is_used.false, answered d.is_open_day.ensures f.if-not-is_open_day.false, answered f.is.ensures f.if-is.false, answered c.is_halted.ensures c.if-is_halted.true) cc
 
 pub returns : goal.returns
 unfolding replace_rule
@@ -40,4 +40,4 @@ returns c =
     let d = f in
     let p = d in
     let u = p in
-    rw (← u.is_live.ensures, ← u.is_used.ensures, p.if-is_live-is_used.false, denied d.is_open_day.ensures f.if-not-is_open_day.false, answered f.is.ensures f.if-is.false, answered c.is_halted.ensures c.if-is_halted.false) c.replace_open.ensures
+    rw (← u.is_live.ensures, ← u.is_used.ensures, p.if-is_live-is_used.false, answered d.is_open_day.ensures f.if-not-is_open_day.false, answered f.is.ensures f.if-is.false, answered c.is_halted.ensures c.if-is_halted.false) c.replace_open.ensures
