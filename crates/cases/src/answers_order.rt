@@ -3,10 +3,12 @@
 // 1 is given to what clients send and 5 to what the engine tells; 6 is given to kinds that need neither record nor reference, which 8 is about.
 // No entry has both, so there the next neighbours stand: 4 before 5, 1 before 8, 7 before 8, 6 before 9.
 use crate::row::{Tally, shown};
+use std::rt::Stdout;
 
 // Columns: what it shows, the script, what should come of it.
-pub(crate) fn answers(tally: Tally) -> Tally {
+pub(crate) fn answers(to: Stdout, tally: Tally) -> Tally {
     shown(
+        to,
         tally,
         b"\
 10 before 11: table, ring of 79           b0 v9 R79 s                           answer 10, nothing changed

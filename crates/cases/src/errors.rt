@@ -1,9 +1,11 @@
 // The errors that students really make (Errors that students really make), each with an entry or two that would show it.
 use crate::row::{Tally, shown};
+use std::rt::Stdout;
 
 // Columns: what it shows, the script, what should come of it.
-pub(crate) fn errors(tally: Tally) -> Tally {
+pub(crate) fn errors(to: Stdout, tally: Tally) -> Tally {
     shown(
+        to,
         tally,
         b"\
 1 oldest dropped, half written: no room   R89 s $0 O500 k B $10000 O500         answer 9, nothing changed

@@ -1,9 +1,11 @@
 // The list of stocks and its halts (Ask 2): the letters of O and U, what goes on, the new entry, and the answers' order.
 use crate::row::{Tally, shown};
+use std::rt::Stdout;
 
 // Columns: what it shows, the script, what should come of it.
-pub(crate) fn halts(tally: Tally) -> Tally {
+pub(crate) fn halts(to: Stdout, tally: Tally) -> Tally {
     shown(
+        to,
         tally,
         b"\
 S: ABC not listed                         s L O500                              Rejected S, A rejected, B free

@@ -1,9 +1,11 @@
 // Settings other than the paper's: firms beyond the first, and a threshold of 1,000 (Table and outbox, the fresh call).
 use crate::row::{Tally, shown};
+use std::rt::Stdout;
 
 // Columns: what it shows, the script, what should come of it.
-pub(crate) fn houses(tally: Tally) -> Tally {
+pub(crate) fn houses(to: Stdout, tally: Tally) -> Tally {
     shown(
+        to,
         tally,
         b"\
 eight firms, blank: the first             F8 s O500                             Accepted 500 at 10000 for 99999 by ABCD, A live 500-0-0=500 for 99999, B free

@@ -1,10 +1,12 @@
 // The order of the reject letters, pair by pair (What each entry does, O): an Enter with a fault and the one behind it, and then with the fault
 // alone. A fault is a spoiled byte of its field.
 use crate::row::{Tally, shown};
+use std::rt::Stdout;
 
 // Columns: what it shows, the script, what should come of it.
-pub(crate) fn letters(tally: Tally) -> Tally {
+pub(crate) fn letters(to: Stdout, tally: Tally) -> Tally {
     shown(
+        to,
         tally,
         b"\
 C before L: day not open, firm            ?44 O500                              Rejected C, A rejected, B free

@@ -32,22 +32,23 @@ use crate::letters::letters;
 use crate::olds::olds;
 use crate::places::places;
 use crate::purges::purges;
-use crate::row::Tally;
+use crate::row::{Tally, say, say_number};
 use crate::sizes::sizes;
 use crate::tallies::tallies;
 use crate::worked::worked;
-use libc::STDOUT_FILENO;
 
-fn main() {
-    io::write_all(
-        STDOUT_FILENO,
+fn main(rt: HostRuntime) {
+    let to = rt.stdout();
+    say(
+        to,
         b"an order: token, state, liable-executed-self-matched=open, time in force\n",
     );
     let none = Tally { tried: 0, agree: 0 };
-    let before = sizes(halts(houses(letters(places(answers(errors(worked(none))))))));
-    let tally = olds(tallies(purges(before)));
-    io::print_decimal(STDOUT_FILENO, tally.agree);
-    io::write_all(STDOUT_FILENO, b" of ");
-    io::print_decimal(STDOUT_FILENO, tally.tried);
-    io::write_all(STDOUT_FILENO, b" did what they should\n");
+    let first = places(to, answers(to, errors(to, worked(to, none))));
+    let before = sizes(to, halts(to, houses(to, letters(to, first))));
+    let tally = olds(to, tallies(to, purges(to, before)));
+    say_number(to, tally.agree);
+    say(to, b" of ");
+    say_number(to, tally.tried);
+    say(to, b" did what they should\n");
 }

@@ -1,6 +1,6 @@
 // The table of two records in its old form, without bits, and what the converter makes of it.
 use crate::run::Last;
-use crate::text::{part, put};
+use crate::text::{part, put, same};
 use answers::{Answer, is_done, number, place};
 use convert::convert;
 
@@ -30,8 +30,8 @@ fn outcome(answer: Answer, table: &[u8], second: &[u8]) -> Last {
         answer: number(answer),
         place: place(answer),
         before: 0,
-        changed: !check::same(second, &[255; SECOND]),
-        intact: check::same(part(table, 64, 144), part(second, 64, 144)),
+        changed: !same(second, &[255; SECOND]),
+        intact: same(part(table, 64, 144), part(second, 64, 144)),
     }
 }
 

@@ -1,9 +1,11 @@
 // Old tables and the converter (Ask 6): what it makes of them, its answers in their order, and that a step takes no old table.
 use crate::row::{Tally, shown};
+use std::rt::Stdout;
 
 // Columns: what it shows, the script, what should come of it.
-pub(crate) fn olds(tally: Tally) -> Tally {
+pub(crate) fn olds(to: Stdout, tally: Tally) -> Tally {
     shown(
+        to,
         tally,
         b"\
 converted                                 s O500 e100 o i225 #                  nothing sent, A live 500-100-0=400 for 99999 intact, B free, in all 1 live, 400 open

@@ -1,9 +1,11 @@
 // The place that an answer 3 tells (Ask 1): a spoiled byte in each judged field of each kind, two of them, and answers that tell none.
 use crate::row::{Tally, shown};
+use std::rt::Stdout;
 
 // Columns: what it shows, the script, what should come of it.
-pub(crate) fn places(tally: Tally) -> Tally {
+pub(crate) fn places(to: Stdout, tally: Tally) -> Tally {
     shown(
+        to,
         tally,
         b"\
 O: stamp                                  ?1 O500                               answer 3 at 1, nothing changed

@@ -1,9 +1,11 @@
 // The purge button (Ask 5): what w cancels, whom d and n block, the letter a, header byte 3, and the answers' order.
 use crate::row::{Tally, shown};
+use std::rt::Stdout;
 
 // Columns: what it shows, the script, what should come of it.
-pub(crate) fn purges(tally: Tally) -> Tally {
+pub(crate) fn purges(to: Stdout, tally: Tally) -> Tally {
     shown(
+        to,
         tally,
         b"\
 w: all that is open, reason U             s O500 e100 w                         Canceled 400, A dead 100-100-0=0, B free

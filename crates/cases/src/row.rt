@@ -2,10 +2,10 @@
 use crate::house::open;
 use crate::run::LONGEST;
 use crate::script::{STOCKS, TABLE_SIZE, play};
-use crate::text::{part, trimmed};
+use crate::text::{part, put_number, same, trimmed};
 use crate::told::told;
-use libc::STDOUT_FILENO;
 use std::num::wrapping_add_u64;
+use std::rt::Stdout;
 
 const SCRIPT_FROM: usize = 42;
 
@@ -18,8 +18,18 @@ pub struct Tally {
     pub agree: u64,
 }
 
-fn say(words: &[u8]) {
-    io::write_all(STDOUT_FILENO, words);
+// What standard output doesn't take is not said again.
+pub(crate) fn say(to: Stdout, words: &[u8]) {
+    match to.write_all(words) {
+        Ok(()) => {}
+        Err(_) => {}
+    }
+}
+
+pub(crate) fn say_number(to: Stdout, n: u64) {
+    let mut digits = [0u8; 20];
+    let end = put_number(&mut digits, 0, n);
+    say(to, part(&digits, 0, end));
 }
 
 // Plays the script on a fresh table with the paper's settings, an empty ring and the stock ABC, which trades, and answers how many bytes of `out` say what came of it.
@@ -37,20 +47,21 @@ fn done(script: &[u8], out: &mut [u8]) -> usize {
 }
 
 // One line; whether what happened is what should.
-fn compared(words: &[u8], should: &[u8], did: &[u8]) -> bool {
-    say(words);
-    say(b": should ");
-    say(should);
-    say(b"; did ");
-    say(did);
-    say(b"\n");
-    check::same(should, did)
+fn compared(to: Stdout, words: &[u8], should: &[u8], did: &[u8]) -> bool {
+    say(to, words);
+    say(to, b": should ");
+    say(to, should);
+    say(to, b"; did ");
+    say(to, did);
+    say(to, b"\n");
+    same(should, did)
 }
 
-fn tried(row: &[u8]) -> bool {
+fn tried(to: Stdout, row: &[u8]) -> bool {
     let mut words = [0u8; 160];
     let n = done(part(row, SCRIPT_FROM, SHOULD_FROM), &mut words);
     compared(
+        to,
         trimmed(part(row, 0, SCRIPT_FROM)),
         part(row, SHOULD_FROM, row.len()),
         part(&words, 0, n),
@@ -65,13 +76,13 @@ fn counted(tally: Tally, agrees: bool) -> Tally {
 }
 
 // Each line of the list is a row.
-pub(crate) fn shown(before: Tally, list: &[u8]) -> Tally {
+pub(crate) fn shown(to: Stdout, before: Tally, list: &[u8]) -> Tally {
     let mut tally = before;
     let mut from: usize = 0;
     let mut i: usize = 0;
     while i < list.len() {
         if list[i] == b'\n' {
-            tally = counted(tally, tried(part(list, from, i)));
+            tally = counted(tally, tried(to, part(list, from, i)));
             from = i + 1;
         }
         i += 1;

@@ -22,7 +22,7 @@ use crate::entries::{entry, size};
 use crate::house::open;
 use crate::older::{converted, take_back};
 use crate::run::{Last, Run, answered, begun, marked, set, sets};
-use crate::text::{part, put};
+use crate::text::{part, put, same};
 use answers::{Answer, number, place};
 use host::step::step;
 use outbox::marks::Marks;
@@ -68,13 +68,13 @@ fn copied(table: &[u8], ring: &[u8], stocks: &[u8]) -> [u8; 362] {
 
 // What came of an entry, from table, ring and list before and after it.
 fn last(answer: Answer, was: Marks, marks: Marks, before: [u8; 362], after: [u8; 362]) -> Last {
-    let same = check::same(&before, &after) & (marks.at == was.at) & (marks.held == was.held);
+    let unchanged = same(&before, &after) & (marks.at == was.at) & (marks.held == was.held);
     Last {
         answer: number(answer),
         place: place(answer),
         before: was.held,
-        changed: !same,
-        intact: check::same(part(&before, 64, 144), part(&after, 64, 144)),
+        changed: !unchanged,
+        intact: same(part(&before, 64, 144), part(&after, 64, 144)),
     }
 }
 

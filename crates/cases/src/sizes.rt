@@ -1,10 +1,12 @@
 // What an intended size means after a self match (Ask 4): every side of it, that it limits what is executed, and that Replace and Modify count
 // self-matched shares all the same. After 500 entered, 100 executed and 50 self-matched 350 are open.
 use crate::row::{Tally, shown};
+use std::rt::Stdout;
 
 // Columns: what it shows, the script, what should come of it.
-pub(crate) fn sizes(tally: Tally) -> Tally {
+pub(crate) fn sizes(to: Stdout, tally: Tally) -> Tally {
     shown(
+        to,
         tally,
         b"\
 X 0 after a self match                    s O500 e100 q50 X0                    Canceled 350, A dead 150-100-50=0, B free

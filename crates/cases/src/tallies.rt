@@ -1,10 +1,12 @@
 // How many orders are live and how much is open of them (Ask 6): after every kind of entry that changes it, what a table answers whose bits, sum or
 // byte 2 are not right, and that the status call judges byte 2 alone. The bits of two records are byte 224; 500 is 1 and 244 in bytes 62 and 63.
 use crate::row::{Tally, shown};
+use std::rt::Stdout;
 
 // Columns: what it shows, the script, what should come of it.
-pub(crate) fn tallies(tally: Tally) -> Tally {
+pub(crate) fn tallies(to: Stdout, tally: Tally) -> Tally {
     shown(
+        to,
         tally,
         b"\
 nothing entered                           s #                                   System Event S, A free, B free, in all 0 live, 0 open

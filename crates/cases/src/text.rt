@@ -15,8 +15,21 @@ pub(crate) fn put(out: &mut [u8], at: usize, words: &[u8]) -> usize {
 
 pub(crate) fn put_number(out: &mut [u8], at: usize, n: u64) -> usize {
     let mut digits = [0u8; 20];
-    let k = io::decimal(n, &mut digits);
-    put(out, at, &digits[..k])
+    let mut from: usize = 20;
+    let mut rest = n;
+    while 0 < from {
+        from -= 1;
+        digits[from] = b'0' + (rest % 10) as u8;
+        rest /= 10;
+        if rest == 0 {
+            break;
+        }
+    }
+    put(out, at, part(&digits, from, 20))
+}
+
+pub(crate) fn same(s: &[u8], t: &[u8]) -> bool {
+    s == t
 }
 
 // The bytes from `from` on and before `end`; none where these are no places.

@@ -1,10 +1,12 @@
 // The paper's worked numbers (Worked numbers), by its own numbers, and a Replace's minimum on both sides of the new open. Numbers 1 to 8 come after
 // 500 entered, 100 executed.
 use crate::row::{Tally, shown};
+use std::rt::Stdout;
 
 // Columns: what it shows, the script, what should come of it.
-pub(crate) fn worked(tally: Tally) -> Tally {
+pub(crate) fn worked(to: Stdout, tally: Tally) -> Tally {
     shown(
+        to,
         tally,
         b"\
 1 Replace 500                             s O500 e100 U500                      Replaced 400, A dead 100-100-0=0, B live 500-100-0=400 for 99999

@@ -9,8 +9,8 @@ use Rattle.wire.specs.Layout.{Layout, Values, layout_for}
 use Rattle.wire.specs.Legal.{Bytes}
 use Rattle.wire.specs.Messages.{read_answer, legal_or_zeros, write_answer, buffer_after}
 use Rattle.wire.proofs.Codec.{Faithful}
-use Rattle.echo.specs.Echo.{echo_answer, echoed, answer_for, echoed_for, answer_among, echoed_among}
-pub use Rattle.wire.proofs.Codec.{refl, rules, unasked}
+use Rattle.echo.specs.Echo.{echo_answer, echoed, answer_among, echoed_among}
+pub use Rattle.wire.proofs.Codec.{refl}
 pub use Rattle.inbound.proofs.Faithful.{enter-order-faithful, replace-order-faithful, cancel-order-faithful, modify-order-faithful}
 pub use Rattle.outbound.proofs.Faithful.{system-event-faithful, accepted-faithful, replaced-faithful, canceled-faithful, aiq-cancelled-faithful, executed-faithful, broken-trade-faithful, rejected-faithful, cancel-pending-faithful, cancel-reject-faithful, priority-update-faithful, modified-faithful}
 

@@ -42,7 +42,7 @@ fn release_marks(n: usize, marks: Marks, k: usize) -> Marks
     moved.marks
 }
 
-// The same over marks that the caller lends. Proofs about lent structs are made by hand, so it copies whole marks and does nothing else.
+// The same over marks that the caller lends: it copies whole marks and does nothing else.
 pub fn release_in_place(n: usize, marks: &mut Marks, k: usize) -> Answer
     ensures { (result ≡ release_answer n marks.old k) × (marks.new ≡ release_marks n marks.old k) }
 {

@@ -1,5 +1,5 @@
 -- The words that the programs take, beyond the paper: without one they do what it says ('a 4,096-byte ring emptied after each entry', 800 records).
-use Rattle.std.specs.Prelude.{ℕ, ◌+◌, ◌*◌, ◌-◌, ◌≤◌, min, ◌≡◌, Bool, true, false, ◌&&◌, ◌||◌, List, [], ◌∷◌, length, leb, ltb}
+use Rattle.std.specs.Prelude.{ℕ, ◌+◌, ◌*◌, ◌-◌, ◌≤◌, min, ◌≡◌, Bool, true, false, ◌&&◌, List, [], ◌∷◌, length, leb, ltb}
 use Prim.Native.Char.{code}
 use Rattle.octets.specs.Bytes.{same}
 use Rattle.octets.specs.Choice.{first_of◌, ◌⇒◌⨾◌, text}

@@ -6,7 +6,7 @@
 
 mod numbers;
 
-ghost use Rattle.std.specs.Prelude.{◌≡◌, ◌<◌, ◌≤◌};
+ghost use Rattle.std.specs.Prelude.{◌≡◌, ◌<◌, ◌≤◌, length};
 ghost use Rattle.octets.specs.Bytes.{same};
 ghost use Rattle.table.specs.Table.{table_size};
 ghost use Rattle.words.specs.Words.{usual, longest_table, word_of, takes, with_word, heard, Allowed};
@@ -14,6 +14,8 @@ ghost use Rattle.words.specs.Words.{usual, longest_table, word_of, takes, with_w
 use crate::numbers::number_in;
 use desk::RING_SIZE;
 use outbox::marks::{LONGEST_RING, SHORTEST_RING};
+use std::env::FillError;
+use std::rt::Env;
 use table::sound::{MOST_RECORDS, table_size};
 
 // What a program says on standard error to a word that it doesn't know.
@@ -65,7 +67,7 @@ pub(crate) enum Word {
 fn is_word(name: &[u8], word: &[u8]) -> bool
     ensures { result ≡ same name.now word.now }
 {
-    check::same(name, word)
+    name == word
 }
 
 fn word_of(name: &[u8]) -> Word
@@ -139,18 +141,37 @@ pub fn hear(before: Words, name: &[u8], value: &[u8]) -> Heard
     }
 }
 
-// The word at place i of what was typed, with its number, where there is one. What is missing or longer than any word is no word.
-fn heard_at(before: Heard, i: usize) -> Heard
+// Whether there is a word at place i of what was typed.
+fn is_typed<R: Env>(rt: &R, i: usize) -> bool {
+    let mut word = [0u8; 16];
+    match rt.arg(i, &mut word) {
+        Err(FillError::NotPresent) => false,
+        _ => true,
+    }
+}
+
+// How long the word at place i is, which then stands in `word`. What is missing or longer than any word is no word.
+fn length_at<R: Env>(rt: &R, i: usize, word: &mut [u8]) -> usize
+    ensures { result ≤ length word.new }
+{
+    match rt.arg(i, word) {
+        Ok(n) => n,
+        Err(_) => 0,
+    }
+}
+
+// The word at place i of what was typed, with its number, where there is one.
+fn heard_at<R: Env>(rt: &R, before: Heard, i: usize) -> Heard
     requires { Allowed before.words × (i < 10) }
     ensures { Allowed result.words }
 {
-    if os::arg_count() <= i {
+    if !is_typed(rt, i) {
         return before;
     }
     let mut name = [0u8; 16];
     let mut value = [0u8; 16];
-    let n = os::arg(i, &mut name);
-    let m = os::arg(i + 1, &mut value);
+    let n = length_at(rt, i, &mut name);
+    let m = length_at(rt, i + 1, &mut value);
     also_heard(before, &name[..n], &value[..m])
 }
 
@@ -175,22 +196,22 @@ fn first_place(own: bool) -> usize
 }
 
 // Nothing heard yet. There are three words, so more than six places are too many.
-fn silence(first: usize) -> Heard
+fn silence<R: Env>(rt: &R, first: usize) -> Heard
     requires { first ≤ 2 }
     ensures { Allowed result.words }
 {
     let words = usual();
     Heard {
         words,
-        good: os::arg_count() <= first + 6,
+        good: !is_typed(rt, first + 6),
     }
 }
 
 // All that was typed, but for the first word where it is the program's own.
-pub fn typed(own: bool) -> Heard
+pub fn typed<R: Env>(rt: &R, own: bool) -> Heard
     ensures { Allowed result.words }
 {
     let first = first_place(own);
-    let one = heard_at(silence(first), first);
-    heard_at(heard_at(one, first + 2), first + 4)
+    let one = heard_at(rt, silence(rt, first), first);
+    heard_at(rt, heard_at(rt, one, first + 2), first + 4)
 }

@@ -1,5 +1,5 @@
 -- The place behind the held bytes is computed once; a put is the two runs from there on. Assumes nothing.
-use Rattle.octets.proofs.Proving.{◌+◌, ◌<◌, ◌∙◌, ap, arith, length, rules, refl, sym, unasked, ℕ}
+use Rattle.octets.proofs.Proving.{◌+◌, ◌<◌, ◌∙◌, ap, arith, length, refl, sym, ℕ}
 use Rattle.outbox.specs.Outbox.{marks_with, free_bytes}
 use Rattle.outbox.specs.Runs.{in_two_runs}
 use Rattle.outbox.proofs.Right.{right}

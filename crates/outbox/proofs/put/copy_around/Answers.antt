@@ -1,6 +1,6 @@
 -- Each branch does what its copies promise: one run where the message reaches no further than the end, two where it does.
 -- Assumes nothing.
-use Rattle.octets.proofs.Proving.{◌∙◌, arith, length-take, rules}
+use Rattle.octets.proofs.Proving.{◌∙◌, arith}
 use Rattle.outbox.proofs.Runs.{one-run, then-rest}
 use Rattle.outbox.proofs.put.copy_around.Goals as goal
 

@@ -1,5 +1,5 @@
 -- The part is cut where the held bytes end or where the ring ends, whichever comes first. Assumes nothing.
-use Rattle.octets.proofs.Proving.{◌-◌, ◌∙◌, ◌≡◌, add-sub_cancel_left, ap, arith, drop, length, length-drop, rules, refl, sym, take, take_all, true, unasked, zero-add, ℕ}
+use Rattle.octets.proofs.Proving.{◌-◌, ◌∙◌, ◌≡◌, add-sub_cancel_left, ap, arith, drop, length, length-drop, refl, sym, take, take_all, true, zero-add, ℕ}
 use Rattle.outbox.specs.Outbox.{ring_good, read_run}
 use Rattle.outbox.specs.Place.{read_place}
 use Rattle.outbox.proofs.Right.{right}

@@ -1,5 +1,5 @@
 -- At each return the tests that led there are the guards of `release_answer`. Assumes nothing.
-use Rattle.octets.proofs.Proving.{◌∙◌, ◌≡◌, arith, le-ltb, lt-ltb, sym, true, unasked}
+use Rattle.octets.proofs.Proving.{◌∙◌, ◌≡◌, arith, le-ltb, lt-ltb, sym, true}
 use Rattle.answers.specs.Answer.{is_done, if_done}
 use Rattle.outbox.specs.Outbox.{ring_good, release_answer, marks_without, release_marks}
 use Rattle.outbox.proofs.Right.{right}

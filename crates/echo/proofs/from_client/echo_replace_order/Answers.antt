@@ -1,0 +1,11 @@
+-- What was read is written back, by the law for all messages. Assumes nothing.
+use Rattle.echo.proofs.Laws.{refl, back, kept, replace-order-faithful}
+use Rattle.echo.proofs.from_client.echo_replace_order.Goals as goal
+
+pub returns-then-is_done : goal.returns-then-is_done
+returns-then-is_done c =
+    back _ _ c.read_replace_order-m.ensures (λ x. x.answer) refl c.is_done.ensures c.if-is_done.true _ (λ x. x.body) replace-order-faithful refl
+    (λ k. (c.type_inv.s k).fits) c.write_replace_order.ensures
+
+pub returns : goal.returns
+returns c = kept _ _ c.read_replace_order-m.ensures (λ x. x.answer) refl c.is_done.ensures c.if-is_done.false

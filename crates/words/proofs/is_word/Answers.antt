@@ -1,0 +1,7 @@
+-- The comparison goes byte by byte, as the definition does. Assumes nothing.
+use Rattle.octets.proofs.Proving.{◌∙◌}
+use Rattle.words.proofs.Laws.{compared}
+use Rattle.words.proofs.is_word.Goals as goal
+
+pub returns : goal.returns
+returns c = c.eq.ensures ∙ compared c.args.name.now c.args.word.now
