@@ -1,0 +1,15 @@
+-- The plan where the checks come to Done, and else the refusal. Assumes nothing.
+use Rattle.octets.proofs.Needs.{unasked}
+use Rattle.market.specs.Cross.{late_rule}
+use Rattle.rules.proofs.Allowed.{allowed-done, allowed-refused}
+use Rattle.market.proofs.cross.late.Goals as goal
+
+pub returns-then-is_done : goal.returns-then-is_done
+unfolding late_rule
+returns-then-is_done c =
+    let p = c in
+    allowed-done p.is_done.ensures c.if-is_done.true (cc) (cc)
+
+pub returns : goal.returns
+unfolding late_rule
+returns c = allowed-refused _ c.is_done.ensures c.if-is_done.false (cc) c.refused.ensures

@@ -1,0 +1,8 @@
+-- Each call is what it promises. Assumes nothing.
+use Rattle.octets.proofs.Needs.{unasked}
+use Rattle.market.specs.Priority.{prioritised_order}
+use Rattle.market.proofs.priority.prioritised_order.Goals as goal
+
+pub returns : goal.returns
+unfolding prioritised_order
+returns c = cc
