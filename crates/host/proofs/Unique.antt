@@ -1,6 +1,6 @@
 -- The promise of a step settles its outcome: two that it allows agree in answer, marks, table, ring and list. Assumes nothing.
 use Rattle.octets.proofs.Proving.{List, ap₂, ℕ}
-use denote.Ref.{Bor}
+use denote.Ref.{MutBor}
 use Rattle.octets.proofs.Settles.{Settles, one-result, one-pair}
 use Rattle.host.specs.Types.{Answer, Marks}
 use Rattle.host.specs.declared.step.Stepped.{Stepped}
@@ -11,7 +11,7 @@ use Rattle.host.proofs as host
 abbrev Seen : Type 0
 Seen = ((Answer × Marks) × (List ℕ × List ℕ)) × List ℕ
 
-one-outcome : {M E : Type 0} {o : Outcome} → Settles {Z = Stepped} {E = Bor (List ℕ) × (Bor (List ℕ) × (M × (Bor (List ℕ) × E)))} {X = Seen}
+one-outcome : {M E : Type 0} {o : Outcome} → Settles {Z = Stepped} {E = MutBor (List ℕ) × (MutBor (List ℕ) × (M × (MutBor (List ℕ) × E)))} {X = Seen}
     (λ z e. Leaves o z.answer z.marks e.0.now e.1.0.now e.1.1.1.0.now)
     (λ z e. (((z.answer, z.marks), (e.0.now, e.1.0.now)), e.1.1.1.0.now))
 one-outcome z z' e e' l k =
