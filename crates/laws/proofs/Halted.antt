@@ -50,9 +50,9 @@ module _ (books : Books) (s : List ℕ) (ok : sound books.table ≡ true) (done 
     listed : is_listed (standing_in l e.symbol) ≡ true
     plans : comes_to books s ≡ setting e
 
-  set_if : (stock : StockStanding) → is_done (halt_rule stock e).answer ≡ true → (is_listed stock ≡ true) × (halt_rule stock e ≡ setting e)
+  set_if_lem : (stock : StockStanding) → is_done (halt_rule stock e).answer ≡ true → (is_listed stock ≡ true) × (halt_rule stock e ≡ setting e)
   unfolding halt_rule refused is_done
-  set_if stock d = by (is_listed stock) refl d
+  set_if_lem stock d = by (is_listed stock) refl d
     where
       by : (b : Bool) → is_listed stock ≡ b → is_done (not b ⇒ refused NotLive ⨾ setting e).answer ≡ true
           → (is_listed stock ≡ true) × ((not b ⇒ refused NotLive ⨾ setting e) ≡ setting e)
@@ -64,7 +64,7 @@ module _ (books : Books) (s : List ℕ) (ok : sound books.table ≡ true) (done 
   sets halt =
       let passed = passed books s done in
       let is = passed.is ∙ decided-by books s (of-sound books.table ok) passed.legal SetsStock halt in
-      let r = set_if (standing_in l e.symbol) (ap (λ (d : Decision). is_done d.answer) (sym is) ∙ done) in
+      let r = set_if_lem (standing_in l e.symbol) (ap (λ (d : Decision). is_done d.answer) (sym is) ∙ done) in
       record { listed = r.0; plans = is ∙ r.1 }
 
   set_to : kind_of s ≡ SetsStock → set_if l (comes_to books s).plan.stock ≡ with_state l e.symbol e.state
