@@ -1,5 +1,5 @@
 -- The laws of a number that is made bit by bit: each bit is as said, none is set past them, and it is the number with these bits. Assumes nothing.
-use Rattle.octets.proofs.Proving.{Bool, ◌<◌, ◌^◌, ◌∙◌, ◌≡◌, ◌≢◌, ap, ap₂, arith, eq-eqb, eqb, eqb-true, false, false≢true, lit<, pow-suc, refl, suc, sym, true, zero, ℕ, ℕ_discrete}
+use Rattle.octets.proofs.Proving.{Bool, ◌<◌, ◌^◌, ◌∙◌, ◌≡◌, ap, ap₂, arith, eq-eqb, eqb, eqb-true, false, false≢true, lit<, pow-suc, refl, suc, sym, true, zero, ℕ, ℕ_discrete}
 use mathlib.Core.Bool.{beq}
 use Rattle.octets.specs.Choice.{all_below}
 use Rattle.octets.specs.Bits.{bit_of, with_bit}

@@ -1,5 +1,5 @@
 -- The header of a fresh table holds, over any number of records. Assumes nothing.
-use Rattle.octets.proofs.Proving.{Bool, List, [], ◌*◌, ◌++◌, ◌+◌, ◌-◌, ◌<◌, ◌∙◌, ◌∷◌, ◌≡◌, ◌≤◌, ap, arith, dec_lt, drop, drop_at, drop-drop, le-ltb, leb, leb-true, length, length-append, length-replicate, length-take-le, lt-ltb, ltb, min, refl, suc, sym, take, true, zero, ℕ}
+use Rattle.octets.proofs.Proving.{Bool, List, [], ◌*◌, ◌++◌, ◌+◌, ◌-◌, ◌<◌, ◌∙◌, ◌∷◌, ◌≡◌, ◌≤◌, ap, arith, dec_lt, drop, drop_at, drop-drop, le-ltb, leb, leb-true, length, length-append, length-replicate, length-take-le, lt-ltb, ltb, refl, suc, sym, take, true, zero, ℕ}
 use lib.Pow.{pow_pos}
 use Rattle.octets.specs.Choice.{pick}
 use Rattle.octets.specs.Bytes.{part, zeros, joined, all_are}

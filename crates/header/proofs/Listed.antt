@@ -1,12 +1,10 @@
 -- The firms that are listed: a place of the row, the codes one behind the other, and that a row made from settings is shaped and blank behind.
 -- Assumes nothing.
-use Rattle.octets.proofs.Proving.{List, [], ◌*◌, ◌++◌, ◌+◌, ◌-◌, ◌<◌, ◌∙◌, ◌∷◌, ◌≡◌, ◌≤◌, add-one, ap, append_assoc, append-nil, arith, dec_lt, drop, drop_at, drop-drop, get_or, le-ltb, length, length-append, length-replicate, length-take-le, lt-ltb, ltb, map, map-append, min, refl, suc, sym, take, take_all, take_at, take-suc, true, zero, ℕ}
-use Rattle.octets.specs.Choice.{pick}
-use Rattle.octets.specs.Bytes.{part, put, zeros, joined, all_are}
+use Rattle.octets.proofs.Proving.{List, [], ◌*◌, ◌++◌, ◌+◌, ◌-◌, ◌<◌, ◌∙◌, ◌∷◌, ◌≡◌, add-one, ap, append_assoc, append-nil, arith, dec_lt, drop_at, drop-drop, get_or, length, length-append, lt-ltb, map, map-append, min, refl, sym, take, take_all, take_at, take-suc, ℕ}
+use Rattle.octets.specs.Bytes.{part, put, zeros, joined}
 use Rattle.octets.proofs.Laws.{take-zeros, drop-zeros, take_past, joined-append}
-use Rattle.octets.proofs.Below.{all-each}
 use Rattle.header.specs.Limits.{most_firms, firm_size}
-use Rattle.header.specs.Firms.{firm_at, rest_blank}
+use Rattle.header.specs.Firms.{firm_at}
 use Rattle.header.specs.Settings.{Firm, codes_of, listed_firms}
 
 -- a firm before the eighth place is a part of the row

@@ -1,6 +1,6 @@
 -- What the types of the fields say of a header and of settings: numbers fit their widths, arrays are as long as they are declared. Code gives
 -- and takes no others.
-use Rattle.std.specs.Prelude.{◌≡◌, List, [], ◌∷◌, ℕ, ◌^◌, ◌<◌, length}
+use Rattle.std.specs.Prelude.{◌≡◌, List, [], ◌∷◌, ◌^◌, ◌<◌, length}
 use Rattle.header.specs.Limits.{firm_size, most_firms}
 use Rattle.header.specs.Header.{Header}
 use Rattle.header.specs.Settings.{Firm, Settings}

@@ -2,7 +2,6 @@
 use Rattle.octets.proofs.Proving.{Bool, ◌+◌, ◌∙◌, ◌≡◌, ◌≤◌, ap, arith, eqb, eqb-false, false, false≢true, ltb-false, not, not-true, or_left, or_right, refl, sym, true}
 use Rattle.octets.specs.Choice.{◌⇒◌⨾◌}
 use Rattle.answers.specs.Answer.{is_done}
-use Rattle.wire.specs.Shares.{◌exceeds◌}
 use Rattle.orders.specs.Counts.{gone, open_shares}
 use Rattle.orders.specs.Order.{is_live}
 use Rattle.market.specs.Guards.{market_answer}

@@ -1,5 +1,5 @@
 -- What making a price tells: where it comes to a price, that is the number sent in and good; where not, it is not. Assumes nothing.
-use Rattle.octets.proofs.Proving.{Bool, ◌∙◌, ◌≡◌, ap, arith, false, refl, sym, true, ℕ}
+use Rattle.octets.proofs.Proving.{Bool, ◌∙◌, ◌≡◌, arith, false, refl, sym, true, ℕ}
 use Rattle.octets.specs.Choice.{pick}
 use Rattle.wire.specs.Price.{good_price, priced_of}
 use Rattle.wire.specs.declared.price.Price.{Price}

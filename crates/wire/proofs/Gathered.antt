@@ -1,6 +1,6 @@
 -- A byte compared with one letter after the other, the answers gathered from left to right, is asked whether it is among the letters.
 -- Assumes nothing.
-use Rattle.octets.proofs.Proving.{Bool, ◌||◌, ◌∙◌, ◌≡◌, eqb, false, or_assoc, or-false, refl, sym, ℕ}
+use Rattle.octets.proofs.Proving.{Bool, ◌||◌, ◌∙◌, ◌≡◌, eqb, false, or_assoc, or-false, sym, ℕ}
 use Prim.Native.Char.{code}
 use Prim.Native.String as Text
 use Rattle.octets.specs.Choice.{among}

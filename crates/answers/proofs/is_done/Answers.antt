@@ -1,5 +1,4 @@
 -- Done is the answer with the number 0. Assumes nothing.
-use Rattle.octets.proofs.Needs.{unasked}
 use Rattle.answers.specs.Answer.{is_done}
 use Rattle.answers.proofs.is_done.Goals as goal
 

@@ -1,5 +1,5 @@
 -- The byte's bit, or past the row none. Assumes nothing.
-use Rattle.octets.proofs.Proving.{arith, rules, sym}
+use Rattle.octets.proofs.Proving.{arith, sym}
 use Rattle.bitrow.specs.Row.{bit_at}
 use Rattle.bitrow.proofs.Rows.{bit-past-row}
 use Rattle.bitrow.proofs.bit_at.Goals as goal

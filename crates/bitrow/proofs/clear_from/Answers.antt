@@ -1,5 +1,5 @@
 -- The byte in which n lies is below a power of 2 and those behind it are 0, or n lies past the row. Assumes nothing.
-use Rattle.octets.proofs.Proving.{◌&&◌, ◌∙◌, ap₂, arith, rules, sym}
+use Rattle.octets.proofs.Proving.{◌&&◌, ◌∙◌, ap₂, arith, sym}
 use Rattle.bitrow.proofs.Rows.{bit-past-row}
 use Rattle.bitrow.proofs.Clear.{clear-bytes, each-clear}
 use Rattle.bitrow.proofs.clear_from.Goals as goal

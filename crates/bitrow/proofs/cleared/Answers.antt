@@ -1,5 +1,5 @@
 -- A bit that is set is 2 to the k of the byte. Assumes nothing.
-use Rattle.octets.proofs.Proving.{arith, rules}
+use Rattle.octets.proofs.Proving.{arith}
 use Rattle.octets.proofs.BitLaws.{off_set, one_shifted}
 use Rattle.bitrow.proofs.cleared.Goals as goal
 

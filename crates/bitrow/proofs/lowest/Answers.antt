@@ -1,6 +1,4 @@
 -- The trailing zeros of a byte end at its first bit that is set. Assumes nothing.
-use Rattle.octets.proofs.Proving.{arith}
-use lib.Count.{trailing_le}
 use Rattle.bitrow.proofs.Width.{trailing-first}
 use Rattle.bitrow.proofs.lowest.Goals as goal
 

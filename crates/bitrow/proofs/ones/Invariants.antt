@@ -1,11 +1,8 @@
 -- The loop's invariant: `n` counts the bits of the k bytes passed. So it is never more than the row has bits, and every sum fits. The measure is what
 -- is left of the row. Assumes nothing.
-use Rattle.octets.proofs.Proving.{◌*◌, ◌+◌, ◌-◌, ◌∙◌, ◌≡◌, ◌≤◌, ap, arith, get_or, length, rules, refl, sym, ℕ}
-use lib.Count as Count
+use Rattle.octets.proofs.Proving.{◌*◌, ◌-◌, ◌≡◌, ◌≤◌, length}
 use Rattle.octets.specs.Choice.{count_below}
-use Rattle.bitrow.specs.Row.{bit_at, ones_in}
-use Rattle.bitrow.proofs.Halves.{count_most}
-use Rattle.bitrow.proofs.Rows.{ones-next}
+use Rattle.bitrow.specs.Row.{bit_at}
 use Rattle.bitrow.proofs.ones.Given as goal
 
 abbrev pub invariant-loop-k : goal.invariant-loop-k

@@ -1,5 +1,5 @@
 -- One byte is written, with one bit changed; past the row none is. Assumes nothing.
-use Rattle.octets.proofs.Proving.{◌/◌, ◌∙◌, ap, arith, rules, set, sym}
+use Rattle.octets.proofs.Proving.{◌/◌, ◌∙◌, ap, arith, set, sym}
 use Rattle.bitrow.proofs.Rows.{with-past, with-set}
 use Rattle.bitrow.proofs.set_bit.Goals as goal
 

@@ -1,5 +1,5 @@
 -- Four runs, one behind the other, are all of the buffer. Assumes nothing.
-use Rattle.octets.proofs.Proving.{List, ◌∙◌, ap, rules, ℕ}
+use Rattle.octets.proofs.Proving.{List, ◌∙◌, ap, ℕ}
 use Rattle.octets.specs.Bytes.{put}
 use Rattle.convert.proofs.Carried.{carried-runs}
 use Rattle.convert.proofs.carry.Goals as goal

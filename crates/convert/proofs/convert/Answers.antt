@@ -1,5 +1,5 @@
 -- The answer is asked first, and only done writes. Assumes nothing.
-use Rattle.octets.proofs.Proving.{List, ◌∙◌, answered, ap₂, arith, length, rules, sym, unasked, ℕ}
+use Rattle.octets.proofs.Proving.{List, ◌∙◌, answered, ap₂, arith, length, sym, ℕ}
 use Rattle.answers.specs.Answer.{if_done}
 use Rattle.answers.proofs.Laws.{is-done}
 use Rattle.convert.specs.Old.{old_used}

@@ -1,5 +1,5 @@
 -- The first that applies. Assumes nothing.
-use Rattle.octets.proofs.Proving.{answered, arith, unasked}
+use Rattle.octets.proofs.Proving.{answered, arith}
 use Rattle.convert.specs.Convert.{convert_answer}
 use Rattle.convert.proofs.Former.{of-old-sound}
 use Rattle.convert.proofs.convert_answer.Goals as goal

@@ -1,5 +1,4 @@
 -- Each field is read at its layout's offset. Assumes nothing.
-use borrow.Author.Rules.{rules}
 use Rattle.header.specs.Header.{header_of}
 use Rattle.header.proofs.header_of.Goals as goal
 

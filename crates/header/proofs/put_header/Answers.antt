@@ -1,5 +1,5 @@
 -- Each run is put right behind the last one, and together they are the whole. Assumes nothing.
-use Rattle.octets.proofs.Proving.{List, [], ◌∙◌, ◌∷◌, ap, arith, length, rules, refl}
+use Rattle.octets.proofs.Proving.{List, [], ◌∙◌, ◌∷◌, ap, arith, length, refl}
 use Rattle.octets.proofs.Laws.{put_whole}
 use Rattle.wire.specs.Layout.{Field, ◌&◌, unbroken, text_at}
 use Rattle.wire.specs.Layout.{◌then◌, ends}

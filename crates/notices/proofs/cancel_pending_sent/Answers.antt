@@ -1,5 +1,4 @@
 -- What is spelled is sent whole, at its length. Assumes nothing.
-use Rattle.octets.proofs.Needs.{unasked}
 use Rattle.notices.proofs.Whole.{whole}
 use Rattle.notices.proofs.cancel_pending_sent.Goals as goal
 

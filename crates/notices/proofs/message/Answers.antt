@@ -1,5 +1,4 @@
 -- The notice, with the plan's orders. Assumes nothing.
-use Rattle.octets.proofs.Needs.{unasked}
 use Rattle.notices.specs.Notices.{message}
 use Rattle.notices.proofs.message.Goals as goal
 

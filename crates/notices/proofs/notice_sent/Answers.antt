@@ -1,5 +1,4 @@
 -- Each arm sends what the definition says of its notice. Assumes nothing.
-use Rattle.octets.proofs.Proving.{rules, unasked}
 use Rattle.notices.specs.Notices.{notice_bytes}
 use Rattle.notices.proofs.notice_sent.Goals as goal
 

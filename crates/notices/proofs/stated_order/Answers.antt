@@ -1,5 +1,4 @@
 -- Each field is the order's. Assumes nothing.
-use Rattle.octets.proofs.Needs.{unasked}
 use Rattle.notices.specs.Notices.{stated_order}
 use Rattle.notices.proofs.stated_order.Goals as goal
 

@@ -1,7 +1,6 @@
 -- The loop's invariant: `ok` says that the k bytes passed are that one. The measure is what is left of n.
-use Rattle.octets.proofs.Proving.{◌+◌, ◌-◌, ◌∙◌, ◌≡◌, ◌≤◌, ap, arith, eqb, get_or, rules, refl, ℕ}
+use Rattle.octets.proofs.Proving.{◌+◌, ◌-◌, ◌≡◌, ◌≤◌, eqb, get_or}
 use Rattle.octets.specs.Choice.{all_below}
-use Rattle.octets.proofs.Below.{all-next, part-are}
 use Rattle.octets.proofs.are_all.Given as goal
 
 abbrev pub invariant-loop-k : goal.invariant-loop-k

@@ -1,5 +1,5 @@
 -- The byte at a place is the number of width 1 there. Assumes nothing.
-use Rattle.octets.proofs.Proving.{rules, sym}
+use Rattle.octets.proofs.Proving.{sym}
 use Rattle.octets.proofs.Laws.{number-byte}
 use Rattle.octets.proofs.byte_at.Goals as goal
 

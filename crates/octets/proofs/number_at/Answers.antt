@@ -1,7 +1,7 @@
 -- The loop's invariant: `v` is the number that the first `k` bytes spell, and so below 256 to the `k`. The measure is what is left of the width.
 -- Assumes nothing.
-use Rattle.octets.proofs.Proving.{◌*◌, ◌+◌, ◌-◌, ◌<◌, ◌^◌, ◌∙◌, ◌≡◌, ◌≤◌, add-one, ap, arith, get_or, lit<, pow-le-pow_right, pow-suc, refl, suc, sym, ℕ}
-use Rattle.octets.specs.Bytes.{whole_at, number_of, number_from}
+use Rattle.octets.proofs.Proving.{◌*◌, ◌+◌, ◌^◌, ◌∙◌, ◌≡◌, ◌≤◌, add-one, ap, arith, get_or, lit<, pow-le-pow_right, pow-suc, refl, suc, sym, ℕ}
+use Rattle.octets.specs.Bytes.{number_of, number_from}
 use Rattle.octets.proofs.Laws.{number-next}
 use Rattle.octets.proofs.number_at.Goals as goal
 use Rattle.octets.proofs.number_at.Goals.{In-loop-k}

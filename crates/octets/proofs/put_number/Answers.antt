@@ -1,6 +1,6 @@
 -- The loop's invariant: what is still to be put, the first `k` bytes of `rest`, makes of `s` what is to be made of it. The measure is `k`.
 -- Assumes nothing.
-use Rattle.octets.proofs.Proving.{◌-◌, ◌∙◌, ◌≡◌, ◌≤◌, ap, arith, length, length-set, refl, suc, sym, ℕ}
+use Rattle.octets.proofs.Proving.{◌-◌, ◌∙◌, ◌≡◌, ap, arith, length-set, suc, sym, ℕ}
 use Rattle.octets.specs.Bytes.{put, digits}
 use Rattle.octets.proofs.Laws.{put-digits, put-none}
 use Rattle.octets.proofs.put_number.Goals as goal

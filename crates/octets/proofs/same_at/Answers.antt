@@ -1,5 +1,5 @@
 -- The loop's invariant: `ok` says that the k bytes passed are the same. The measure is what is left of b.
-use Rattle.octets.proofs.Proving.{◌+◌, ◌-◌, ◌∙◌, ◌≡◌, ◌≤◌, ap, arith, eqb, get_or, length, rules, refl, ℕ}
+use Rattle.octets.proofs.Proving.{◌+◌, ◌∙◌, ◌≡◌, ap, arith, eqb, get_or, length, refl, ℕ}
 use Rattle.octets.specs.Choice.{all_below}
 use Rattle.octets.proofs.Below.{all-next, part_same}
 use Rattle.octets.proofs.same_at.Goals as goal

@@ -1,7 +1,6 @@
 -- The loop's invariant: `ok` says that the k bytes passed are the same. The measure is what is left of b.
-use Rattle.octets.proofs.Proving.{◌+◌, ◌-◌, ◌∙◌, ◌≡◌, ◌≤◌, ap, arith, eqb, get_or, length, rules, refl, ℕ}
+use Rattle.octets.proofs.Proving.{◌+◌, ◌-◌, ◌≡◌, ◌≤◌, eqb, get_or, length}
 use Rattle.octets.specs.Choice.{all_below}
-use Rattle.octets.proofs.Below.{all-next, part_same}
 use Rattle.octets.proofs.same_at.Given as goal
 
 abbrev pub invariant-loop-k : goal.invariant-loop-k

@@ -1,5 +1,5 @@
 -- Each arm is the reader of its type's message; behind the last no type is left. Assumes nothing.
-use Rattle.octets.proofs.Proving.{◌∙◌, ne_eqb, sym, unasked}
+use Rattle.octets.proofs.Proving.{◌∙◌, ne_eqb, sym}
 use Rattle.wire.specs.Layout.{layout_for}
 use Rattle.stamping.specs.Stamping.{heard}
 use Rattle.stamping.proofs.heard_by_host.Goals as goal

@@ -1,5 +1,5 @@
 -- There is no room, or the entry is put, of either port's message. Assumes nothing.
-use Rattle.octets.proofs.Proving.{Bool, ◌+◌, ◌≤◌, ap, arith, length, rules, sym, unasked}
+use Rattle.octets.proofs.Proving.{Bool, ◌+◌, ◌≤◌, ap, arith, length, sym}
 use Rattle.stamping.specs.Stamping.{body_for}
 use Rattle.stamping.proofs.Answers.{size_is, no_room_lem, entry-made}
 use Rattle.stamping.proofs.Which.{host-long, all-but-type}

@@ -1,5 +1,5 @@
 -- The firm behind the stamp, and the symbol behind the firm where there is one. Assumes nothing.
-use Rattle.octets.proofs.Proving.{List, ◌++◌, ◌∙◌, ◌∷◌, ap, arith, length-take, rules, sym, unasked, ℕ}
+use Rattle.octets.proofs.Proving.{List, ◌++◌, ◌∙◌, ◌∷◌, ap, arith, length-take, sym, ℕ}
 use Rattle.octets.specs.Bytes.{put, digits}
 use Rattle.stamping.proofs.Puts.{firm-fits, symbol-fits, symbol-put}
 use Rattle.stamping.proofs.Which.{purge-long, mass-long, firm-alone}

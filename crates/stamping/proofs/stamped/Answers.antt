@@ -1,5 +1,5 @@
 -- A refused message answers, and nothing changes; of one that is let through the entry is made. Assumes nothing.
-use Rattle.octets.proofs.Proving.{◌∙◌, answered, rules, sym, unasked}
+use Rattle.octets.proofs.Proving.{◌∙◌, answered, sym}
 use Rattle.answers.proofs.Laws.{is-done}
 use Rattle.stamping.proofs.Answers.{refused}
 use Rattle.stamping.proofs.stamped.Goals as goal

@@ -1,5 +1,5 @@
 -- The length first, and then all that is asked of the bytes. Assumes nothing.
-use Rattle.octets.proofs.Proving.{[], ◌∷◌, answered, arith, eqb, rules, unasked}
+use Rattle.octets.proofs.Proving.{[], ◌∷◌, answered, arith, eqb}
 use Rattle.octets.specs.Choice.{all_below}
 use Rattle.octets.specs.Bytes.{part, all_are, whole_at}
 use Rattle.octets.proofs.Below.{in-row}

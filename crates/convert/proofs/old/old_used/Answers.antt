@@ -1,5 +1,5 @@
 -- One number of the header, read as the header reads it; a table that has no whole header has no record. Assumes nothing.
-use Rattle.octets.proofs.Proving.{rules, unasked}
+use Rattle.octets.proofs.Proving.{rules}
 use Rattle.header.specs.Header.{header_of}
 use Rattle.convert.specs.Old.{old_header, old_records, old_used}
 use Rattle.convert.proofs.old.old_used.Goals as goal

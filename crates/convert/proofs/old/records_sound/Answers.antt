@@ -1,5 +1,5 @@
 -- What the walk over the used records finds. Assumes nothing.
-use Rattle.octets.proofs.Proving.{List, ◌∙◌, ◌≤◌, ap, arith, unasked, ℕ}
+use Rattle.octets.proofs.Proving.{List, ◌∙◌, ◌≤◌, ap, arith, ℕ}
 use Rattle.table.specs.Walk.{found_in}
 use Rattle.table.specs.declared.walk.Found.{Found}
 use Rattle.convert.specs.Old.{old_records, old_used}

@@ -1,5 +1,5 @@
 -- The bytes are copied whole, and byte 2 is set. Assumes nothing.
-use Rattle.octets.proofs.Proving.{List, ◌∙◌, ap, arith, length-take-le, rules, refl, set, set_split, take, ℕ}
+use Rattle.octets.proofs.Proving.{List, ◌∙◌, ap, arith, length-take-le, set, set_split, take, ℕ}
 use Rattle.convert.specs.Old.{renewed}
 use Rattle.convert.proofs.old.renewed.Goals as goal
 

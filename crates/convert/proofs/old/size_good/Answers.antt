@@ -1,6 +1,5 @@
 -- How many records there are room for, and then the length. Assumes nothing.
-use Rattle.octets.proofs.Proving.{arith, unasked}
-use Rattle.convert.specs.Old.{old_records, old_size_good}
+use Rattle.convert.specs.Old.{old_size_good}
 use Rattle.convert.proofs.old.size_good.Goals as goal
 
 pub returns-then-n : goal.returns-then-n

@@ -1,5 +1,5 @@
 -- The bit of the place is changed where a firm is listed there. Assumes nothing.
-use Rattle.octets.proofs.Proving.{arith, le-ltb, lt-ltb, rules, unasked}
+use Rattle.octets.proofs.Proving.{le-ltb, lt-ltb}
 use Rattle.header.specs.Firms.{blocked_with}
 use Rattle.header.proofs.firms.blocked_with.Goals as goal
 

@@ -1,5 +1,5 @@
 -- The k-th four bytes, or zeros past the eighth place. Assumes nothing.
-use Rattle.octets.proofs.Proving.{◌≡◌, le-ltb, lt-ltb, rules}
+use Rattle.octets.proofs.Proving.{le-ltb, lt-ltb}
 use Rattle.header.specs.Firms.{firm_at}
 use Rattle.header.proofs.firms.firm_at.Goals as goal
 

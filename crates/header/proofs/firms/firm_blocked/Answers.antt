@@ -1,5 +1,5 @@
 -- The bit of the firm's place; a byte has none past the eighth. Assumes nothing.
-use Rattle.octets.proofs.Proving.{arith, rules, sym, unasked}
+use Rattle.octets.proofs.Proving.{arith, rules, sym}
 use Rattle.octets.proofs.BitLaws.{bit_past}
 use Rattle.header.specs.Firms.{firm_place, firm_blocked}
 use Rattle.header.proofs.firms.firm_blocked.Goals as goal

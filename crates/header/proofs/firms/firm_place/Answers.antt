@@ -1,7 +1,7 @@
 -- The loop's invariant: the first place of the firm is still ahead. The measure is what is left of the count. Assumes nothing.
-use Rattle.octets.proofs.Proving.{◌-◌, ◌≤◌, arith, rules, unasked}
+use Rattle.octets.proofs.Proving.{◌-◌, arith}
 use Rattle.octets.specs.Bytes.{same}
-use Rattle.octets.proofs.First.{Ahead, ahead-start, ahead-found, ahead-next, ahead-end}
+use Rattle.octets.proofs.First.{ahead-start, ahead-found, ahead-next, ahead-end}
 use Rattle.header.specs.Firms.{firm_at, firm_place}
 use Rattle.header.proofs.firms.firm_place.Goals as goal
 

@@ -1,8 +1,8 @@
 -- The loop's invariant: the first place of the firm is still ahead. The measure is what is left of the count. Assumes nothing.
-use Rattle.octets.proofs.Proving.{◌-◌, ◌≤◌, arith, rules, unasked}
+use Rattle.octets.proofs.Proving.{◌-◌, ◌≤◌}
 use Rattle.octets.specs.Bytes.{same}
-use Rattle.octets.proofs.First.{Ahead, ahead-start, ahead-found, ahead-next, ahead-end}
-use Rattle.header.specs.Firms.{firm_at, firm_place}
+use Rattle.octets.proofs.First.{Ahead}
+use Rattle.header.specs.Firms.{firm_at}
 use Rattle.header.proofs.firms.firm_place.Given as goal
 
 abbrev pub invariant-loop-k : goal.invariant-loop-k

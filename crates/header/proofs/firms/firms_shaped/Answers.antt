@@ -1,5 +1,5 @@
 -- The loop's invariant: each firm before place k is shaped. The measure is what is left of the count.
-use Rattle.octets.proofs.Proving.{◌-◌, ◌∙◌, ◌≡◌, ◌≤◌, ap, arith, rules, refl, sym, true, unasked}
+use Rattle.octets.proofs.Proving.{◌-◌, ◌∙◌, ◌≡◌, ap, arith, refl, sym, true}
 use Rattle.octets.specs.Choice.{all_below}
 use Rattle.octets.proofs.Below.{all_true, all-false}
 use Rattle.wire.specs.Text.{shaped}

@@ -1,9 +1,8 @@
 -- The loop's invariant: each firm before place k is shaped. The measure is what is left of the count.
-use Rattle.octets.proofs.Proving.{◌-◌, ◌∙◌, ◌≡◌, ◌≤◌, ap, arith, rules, refl, sym, true, unasked}
+use Rattle.octets.proofs.Proving.{◌-◌, ◌≡◌, ◌≤◌, true}
 use Rattle.octets.specs.Choice.{all_below}
-use Rattle.octets.proofs.Below.{all_true, all-false}
 use Rattle.wire.specs.Text.{shaped}
-use Rattle.header.specs.Firms.{firm_at, firms_shaped}
+use Rattle.header.specs.Firms.{firm_at}
 use Rattle.header.proofs.firms.firms_shaped.Given as goal
 
 abbrev pub invariant-loop-k : goal.invariant-loop-k

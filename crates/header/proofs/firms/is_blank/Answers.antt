@@ -1,5 +1,5 @@
 -- A blank firm is four spaces.
-use Rattle.octets.proofs.Proving.{◌∙◌, ◌≡◌, ap, arith, eqb, get_or, length, rules, sym, ℕ}
+use Rattle.octets.proofs.Proving.{◌∙◌, ◌≡◌, ap, arith, eqb, get_or, length, sym, ℕ}
 use Rattle.octets.specs.Choice.{all_below}
 use Rattle.octets.proofs.Below.{are-below}
 use Rattle.header.specs.Firms.{is_blank}

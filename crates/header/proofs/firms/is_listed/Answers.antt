@@ -1,5 +1,5 @@
 -- A firm is listed where its place is before the count. Assumes nothing.
-use Rattle.octets.proofs.Proving.{◌∙◌, ap, ltb, rules, sym, unasked, ℕ}
+use Rattle.octets.proofs.Proving.{◌∙◌, ap, ltb, sym, ℕ}
 use Rattle.header.proofs.Blocked.{listed_below}
 use Rattle.header.proofs.firms.is_listed.Goals as goal
 

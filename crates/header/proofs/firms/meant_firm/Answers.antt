@@ -1,5 +1,5 @@
 -- A blank firm is the first of the list, any other is itself.
-use Rattle.octets.proofs.Proving.{◌∙◌, ◌≡◌, false, rules, sym, true, unasked}
+use Rattle.octets.proofs.Proving.{◌∙◌, ◌≡◌, false, sym, true}
 use Rattle.header.specs.Firms.{is_blank, meant_firm}
 use Rattle.header.specs.Firms.{meant_firm}
 use Rattle.header.proofs.firms.meant_firm.Goals as goal

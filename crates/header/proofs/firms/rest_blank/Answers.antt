@@ -1,5 +1,5 @@
 -- The loop's invariant: each place passed is before the count or zero. The measure is what is left of the eight.
-use Rattle.octets.proofs.Proving.{Bool, List, ◌-◌, ◌||◌, ◌∙◌, ◌≡◌, ◌≤◌, ap, arith, false, ltb, rules, refl, sym, true, ℕ}
+use Rattle.octets.proofs.Proving.{Bool, List, ◌-◌, ◌||◌, ◌∙◌, ◌≡◌, ap, arith, false, ltb, refl, sym, true, ℕ}
 use Rattle.octets.specs.Choice.{pick, all_below}
 use Rattle.octets.specs.Bytes.{all_are}
 use Rattle.header.proofs.Listed.{firm-part}

@@ -1,10 +1,8 @@
 -- The loop's invariant: each place passed is before the count or zero. The measure is what is left of the eight.
-use Rattle.octets.proofs.Proving.{Bool, List, ◌-◌, ◌||◌, ◌∙◌, ◌≡◌, ◌≤◌, ap, arith, false, ltb, rules, refl, sym, true, ℕ}
+use Rattle.octets.proofs.Proving.{◌-◌, ◌≡◌, ◌≤◌, ltb, true}
 use Rattle.octets.specs.Choice.{pick, all_below}
 use Rattle.octets.specs.Bytes.{all_are}
-use Rattle.header.proofs.Listed.{firm-part}
-use Rattle.octets.proofs.Below.{all-next}
-use Rattle.header.specs.Firms.{firm_at, rest_blank}
+use Rattle.header.specs.Firms.{firm_at}
 use Rattle.header.proofs.firms.rest_blank.Given as goal
 
 abbrev pub invariant-loop-k : goal.invariant-loop-k

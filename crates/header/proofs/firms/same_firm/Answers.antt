@@ -1,5 +1,5 @@
 -- Four bytes each, compared one by one.
-use Rattle.octets.proofs.Proving.{◌∙◌, ◌≡◌, ap, arith, eqb, get_or, length, rules, sym, ℕ}
+use Rattle.octets.proofs.Proving.{◌∙◌, ◌≡◌, ap, arith, eqb, get_or, length, sym, ℕ}
 use Rattle.octets.specs.Choice.{all_below}
 use Rattle.octets.proofs.Below.{same-below}
 use Rattle.header.proofs.firms.same_firm.Goals as goal

@@ -1,5 +1,4 @@
 -- Field by field. Assumes nothing.
-use Rattle.octets.proofs.Proving.{rules, unasked}
 use Rattle.header.specs.Settings.{fresh_header}
 use Rattle.header.proofs.settings.fresh_header.Goals as goal
 

@@ -1,8 +1,7 @@
 -- The loop's invariant: the row holds the codes of the firms passed, and zeros behind them. The measure is what is left of those that are listed. Assumes nothing.
-use Rattle.octets.proofs.Proving.{◌*◌, ◌++◌, ◌-◌, ◌∙◌, ◌≡◌, ◌≤◌, arith, length, rules, refl, unasked}
-use Rattle.octets.specs.Bytes.{zeros, joined}
+use Rattle.octets.proofs.Proving.{◌*◌, ◌++◌, ◌-◌, ◌≡◌, ◌≤◌, length}
+use Rattle.octets.specs.Bytes.{zeros}
 use Rattle.header.specs.Settings.{codes_of}
-use Rattle.header.proofs.Listed.{row_next, row-all}
 use Rattle.header.proofs.settings.listed_firms.Given as goal
 
 abbrev pub invariant-loop-k : goal.invariant-loop-k

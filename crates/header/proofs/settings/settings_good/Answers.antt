@@ -1,5 +1,5 @@
 -- The tests are the paper's, all at once. Assumes nothing.
-use Rattle.octets.proofs.Proving.{[], ◌∷◌, leb, rules, true, unasked}
+use Rattle.octets.proofs.Proving.{[], ◌∷◌, leb, true}
 use Rattle.octets.proofs.Below.{in-row}
 use Rattle.header.specs.Limits.{lowest_threshold, highest_threshold, fewest_firms, most_firms}
 use Rattle.header.specs.Firms.{firms_shaped}

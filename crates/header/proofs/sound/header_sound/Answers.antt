@@ -1,6 +1,6 @@
 -- The numbers are judged first; then the used records against the length, the firms, and their bits against the count that was judged. Assumes
 -- nothing.
-use Rattle.octets.proofs.Proving.{[], ◌^◌, ◌∷◌, answered, ap, arith, leb, ltb, rules, unasked}
+use Rattle.octets.proofs.Proving.{[], ◌^◌, ◌∷◌, answered, ap, arith, leb, ltb}
 use Rattle.octets.proofs.Below.{in-row}
 use Rattle.header.specs.Header.{Header, header_of}
 use Rattle.header.specs.Firms.{firms_shaped, rest_blank}

@@ -1,5 +1,5 @@
 -- Each test of the code is the judgement of one field. Assumes nothing.
-use Rattle.octets.proofs.Proving.{◌∙◌, rules, sym, true}
+use Rattle.octets.proofs.Proving.{◌∙◌, sym, true}
 use Rattle.octets.proofs.Below.{in-row}
 use Rattle.header.specs.Header.{header_of}
 use Rattle.header.proofs.Judged.{number_tests, number-tests}

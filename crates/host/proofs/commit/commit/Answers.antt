@@ -1,5 +1,4 @@
 -- The two records and the header, one after the other. Assumes nothing.
-use Rattle.octets.proofs.Proving.{rules, unasked}
 use Rattle.host.specs.Step.{committed}
 use Rattle.host.proofs.commit.commit.Goals as goal
 

@@ -1,5 +1,4 @@
 -- Each field is what its own function says, or stays. Assumes nothing.
-use Rattle.octets.proofs.Proving.{rules, unasked}
 use Rattle.host.specs.Step.{header_after}
 use Rattle.host.proofs.commit.header_after.Goals as goal
 

@@ -1,5 +1,5 @@
 -- The state is set where there is a stock, and nothing written where there is none. Assumes nothing.
-use Rattle.octets.proofs.Proving.{rules, ne_eqb, eq-eqb}
+use Rattle.octets.proofs.Proving.{ne_eqb, eq-eqb}
 use Rattle.host.specs.Step.{set_if}
 use Rattle.host.proofs.commit.set_if.Goals as goal
 

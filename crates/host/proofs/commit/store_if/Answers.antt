@@ -1,5 +1,5 @@
 -- Stored where there is an order, and nothing written where there is none. Assumes nothing.
-use Rattle.octets.proofs.Proving.{answered, rules, unasked}
+use Rattle.octets.proofs.Proving.{answered}
 use Rattle.host.specs.Step.{store_if}
 use Rattle.host.proofs.commit.store_if.Goals as goal
 

@@ -1,5 +1,4 @@
 -- The limits, of what the rule decides. Assumes nothing.
-use Rattle.octets.proofs.Proving.{rules, unasked}
 use Rattle.host.specs.Step.{decide}
 use Rattle.host.proofs.decide.comes_to.Goals as goal
 

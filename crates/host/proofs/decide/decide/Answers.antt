@@ -1,5 +1,5 @@
 -- Each kind comes to its rule. Assumes nothing.
-use Rattle.octets.proofs.Proving.{◌∙◌, rules, sym, unasked}
+use Rattle.octets.proofs.Proving.{◌∙◌, sym}
 use Rattle.tape.proofs.Formed.{long_as}
 use Rattle.host.specs.Step.{decide_by}
 use Rattle.host.proofs.decide.decide.Goals as goal

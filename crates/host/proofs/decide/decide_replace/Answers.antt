@@ -1,5 +1,4 @@
 -- The rule, of both orders that the entry names and of how their stock stands. Assumes nothing.
-use Rattle.octets.proofs.Proving.{rules, unasked}
 use Rattle.table.specs.Table.{order_named}
 use Rattle.host.proofs.decide.decide_replace.Goals as goal
 

@@ -1,5 +1,4 @@
 -- The two limits, each test for test. Assumes nothing.
-use Rattle.octets.proofs.Proving.{rules, unasked}
 use Rattle.host.specs.Step.{within_limits, no_record_free, no_reference_left}
 use Rattle.host.proofs.decide.within_limits.Goals as goal
 

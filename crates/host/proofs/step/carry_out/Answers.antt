@@ -1,5 +1,4 @@
 -- Blocked where there is no room, and else all is written. Assumes nothing.
-use Rattle.octets.proofs.Proving.{rules, unasked}
 use Rattle.outbox.specs.Outbox.{free_bytes}
 use Rattle.outbox.proofs.Right.{right}
 use Rattle.host.specs.Step.{world}

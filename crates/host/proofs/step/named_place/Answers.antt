@@ -1,6 +1,6 @@
 -- Where the token is found, or what a purge is about, or behind the used records. In a sound table the bits lead to what a purge is about. Assumes
 -- nothing.
-use Rattle.octets.proofs.Proving.{◌∙◌, answered, leb-true, unasked}
+use Rattle.octets.proofs.Proving.{◌∙◌, answered, leb-true}
 use Rattle.orders.proofs.Wanting.{wanted-live}
 use Rattle.table.proofs.Finding.{by-the-bits}
 use Rattle.tape.specs.Entries.{names_order}

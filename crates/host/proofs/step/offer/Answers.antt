@@ -1,5 +1,5 @@
 -- What judging refuses, or what taking the entry leaves. Assumes nothing.
-use Rattle.octets.proofs.Proving.{◌∙◌, answered, rules, sym, unasked}
+use Rattle.octets.proofs.Proving.{◌∙◌, answered, sym}
 use Rattle.answers.proofs.Laws.{is-done}
 use Rattle.host.specs.Step.{world}
 use Rattle.host.proofs.Offers.{refused-leaves}

@@ -1,5 +1,5 @@
 -- A refusal leaves all as it was. Assumes nothing.
-use Rattle.octets.proofs.Proving.{answered, rules, unasked}
+use Rattle.octets.proofs.Proving.{answered}
 use Rattle.host.specs.Step.{world, settle}
 use Rattle.host.proofs.Offers.{stays}
 use Rattle.host.proofs.step.settle.Goals as goal

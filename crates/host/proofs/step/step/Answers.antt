@@ -1,5 +1,5 @@
 -- Table, ring and list are judged, and then the entry is offered. Assumes nothing.
-use Rattle.octets.proofs.Proving.{answered, rules, unasked}
+use Rattle.octets.proofs.Proving.{answered}
 use Rattle.host.specs.Step.{world, step}
 use Rattle.host.proofs.Offers.{stays}
 use Rattle.host.proofs.step.step.Goals as goal

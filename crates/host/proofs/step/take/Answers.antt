@@ -1,5 +1,5 @@
 -- In time or not, and then what the entry comes to. Assumes nothing.
-use Rattle.octets.proofs.Proving.{ap, arith, rules, unasked}
+use Rattle.octets.proofs.Proving.{ap, arith}
 use Rattle.header.specs.declared.Header.{Header}
 use Rattle.table.proofs.Soundness.{of-sound}
 use Rattle.tape.proofs.Formed.{stamp-fits}

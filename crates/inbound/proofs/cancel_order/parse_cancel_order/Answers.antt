@@ -1,5 +1,5 @@
 -- Each field is what its leaf reads at its offset. Assumes nothing.
-use Rattle.inbound.proofs.Codec.{rules, cancel_order_of}
+use Rattle.inbound.proofs.Codec.{cancel_order_of}
 use Rattle.inbound.proofs.cancel_order.parse_cancel_order.Goals as goal
 
 pub returns : goal.returns

@@ -1,5 +1,5 @@
 -- The fields are put one by one, in the layout's order, and what is sent is what was spelled. Assumes nothing.
-use Rattle.inbound.proofs.Codec.{unasked, rules, ◌then◌, ends, spelled, written, cancel_order_bytes}
+use Rattle.inbound.proofs.Codec.{◌then◌, ends, spelled, written, cancel_order_bytes}
 use Rattle.inbound.proofs.cancel_order.write_cancel_order.Goals as goal
 
 pub returns : goal.returns

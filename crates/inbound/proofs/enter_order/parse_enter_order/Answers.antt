@@ -1,5 +1,5 @@
 -- Each field is what its leaf reads at its offset. Assumes nothing.
-use Rattle.inbound.proofs.Codec.{rules, enter_order_of}
+use Rattle.inbound.proofs.Codec.{enter_order_of}
 use Rattle.inbound.proofs.enter_order.parse_enter_order.Goals as goal
 
 pub returns : goal.returns

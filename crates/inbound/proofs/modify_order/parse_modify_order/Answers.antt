@@ -1,5 +1,5 @@
 -- Each field is what its leaf reads at its offset. Assumes nothing.
-use Rattle.inbound.proofs.Codec.{rules, modify_order_of}
+use Rattle.inbound.proofs.Codec.{modify_order_of}
 use Rattle.inbound.proofs.modify_order.parse_modify_order.Goals as goal
 
 pub returns : goal.returns

@@ -1,5 +1,5 @@
 -- Pending or not. Assumes nothing.
-use Rattle.octets.proofs.Proving.{answered, unasked}
+use Rattle.octets.proofs.Proving.{answered}
 use Rattle.market.specs.Cross.{cross_done}
 use Rattle.market.proofs.cross.cross_done_of.Goals as goal
 

@@ -1,5 +1,4 @@
 -- Each return is the guard that its tests led to. Assumes nothing.
-use Rattle.octets.proofs.Needs.{unasked}
 use Rattle.market.specs.Day.{system_rule}
 use Rattle.market.proofs.day.system.Goals as goal
 

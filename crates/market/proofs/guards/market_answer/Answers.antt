@@ -1,5 +1,4 @@
 -- Test for test. Assumes nothing.
-use Rattle.octets.proofs.Needs.{unasked}
 use Rattle.market.specs.Guards.{market_answer}
 use Rattle.market.proofs.guards.market_answer.Goals as goal
 

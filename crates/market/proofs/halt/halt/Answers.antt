@@ -1,5 +1,5 @@
 -- Each return is the guard that its test led to. Assumes nothing.
-use Rattle.octets.proofs.Proving.{answered, unasked}
+use Rattle.octets.proofs.Proving.{answered}
 use Rattle.market.specs.Halt.{halt_rule}
 use Rattle.market.proofs.halt.halt.Goals as goal
 

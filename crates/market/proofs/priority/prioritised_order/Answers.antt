@@ -1,5 +1,4 @@
 -- Each call is what it promises. Assumes nothing.
-use Rattle.octets.proofs.Needs.{unasked}
 use Rattle.market.specs.Priority.{prioritised_order}
 use Rattle.market.proofs.priority.prioritised_order.Goals as goal
 

@@ -1,5 +1,4 @@
 -- The plan where the checks come to Done, and else the refusal. Assumes nothing.
-use Rattle.octets.proofs.Needs.{unasked}
 use Rattle.market.specs.Taken.{book_cancel_rule}
 use Rattle.rules.proofs.Allowed.{allowed-done, allowed-refused}
 use Rattle.market.proofs.taken.book_cancel.Goals as goal

@@ -1,5 +1,4 @@
 -- The plan where the checks come to Done, and else the refusal. Assumes nothing.
-use Rattle.octets.proofs.Needs.{unasked}
 use Rattle.market.specs.Taken.{self_match_rule}
 use Rattle.market.proofs.Room.{takes}
 use Rattle.rules.proofs.Allowed.{allowed-done, allowed-refused}

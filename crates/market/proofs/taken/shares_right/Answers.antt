@@ -1,5 +1,4 @@
 -- Test for test. Assumes nothing.
-use Rattle.octets.proofs.Needs.{unasked}
 use Rattle.market.specs.Taken.{shares_right}
 use Rattle.market.proofs.taken.shares_right.Goals as goal
 

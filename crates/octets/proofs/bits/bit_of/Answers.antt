@@ -1,5 +1,4 @@
 -- What the shift leaves begins with bit k. Assumes nothing.
-use borrow.Author.Rules.{rules}
 use Rattle.octets.proofs.BitLaws.{bit_shifted}
 use Rattle.octets.proofs.bits.bit_of.Goals as goal
 

@@ -1,5 +1,5 @@
 -- The byte without the bit has room for it, since the byte with it is a byte. Assumes nothing.
-use Rattle.octets.proofs.Proving.{◌∙◌, ap, arith, rules, sym, true}
+use Rattle.octets.proofs.Proving.{ap, arith, rules, true}
 use Rattle.octets.specs.Bits.{with_bit}
 use Rattle.octets.proofs.BitLaws.{with-lt, with-on, one_shifted}
 use Rattle.octets.proofs.bits.with_bit.Goals as goal

@@ -1,5 +1,5 @@
 -- A bit that is set is 2 to the k of the byte, and where it is not, the byte is without it already. Assumes nothing.
-use Rattle.octets.proofs.Proving.{answered, arith, rules, sym}
+use Rattle.octets.proofs.Proving.{answered, arith, sym}
 use Rattle.octets.proofs.BitLaws.{off_set, off-unset, one_shifted}
 use Rattle.octets.proofs.bits.without_bit.Goals as goal
 

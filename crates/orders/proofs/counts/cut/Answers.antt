@@ -1,5 +1,4 @@
 -- Liable is cut, and the other counts stay. Assumes nothing.
-use Rattle.octets.proofs.Needs.{unasked}
 use Rattle.orders.specs.Counts.{cut}
 use Rattle.orders.proofs.counts.cut.Goals as goal
 

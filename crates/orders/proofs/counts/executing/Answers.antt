@@ -1,5 +1,4 @@
 -- Field by field; the sum is at most liable, so it fits. Assumes nothing.
-use borrow.Author.Rules.{rules}
 use Rattle.orders.specs.Counts.{executing}
 use Rattle.orders.proofs.counts.executing.Goals as goal
 

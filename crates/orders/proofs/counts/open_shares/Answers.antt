@@ -1,5 +1,4 @@
 -- What is open of liable. Assumes nothing.
-use Rattle.octets.proofs.Needs.{unasked}
 use Rattle.orders.specs.Counts.{open_shares}
 use Rattle.orders.proofs.counts.open_shares.Goals as goal
 

@@ -1,7 +1,5 @@
 -- One of the three bits is not 0, so it divides. Assumes nothing.
-use Rattle.octets.proofs.Proving.{arith, unasked}
 use Rattle.orders.specs.Flags.{has_flag}
-use Rattle.orders.proofs.Bits.{bit-positive}
 use Rattle.orders.proofs.flags.has_flag.Goals as goal
 
 pub returns : goal.returns

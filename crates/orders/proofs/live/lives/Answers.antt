@@ -1,5 +1,4 @@
 -- The state's byte. Assumes nothing.
-use Rattle.octets.proofs.Proving.{rules}
 use Rattle.orders.specs.Order.{order_of, is_live}
 use Rattle.orders.proofs.live.lives.Goals as goal
 

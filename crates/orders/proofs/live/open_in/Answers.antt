@@ -1,5 +1,5 @@
 -- The counts are asked of a live order alone. Assumes nothing.
-use Rattle.octets.proofs.Proving.{answered, rules, unasked}
+use Rattle.octets.proofs.Proving.{answered}
 use Rattle.orders.specs.Order.{open_of}
 use Rattle.orders.proofs.live.open_in.Goals as goal
 

@@ -1,5 +1,4 @@
 -- Only the flags change, and of these one bit. Assumes nothing.
-use Rattle.octets.proofs.Needs.{unasked}
 use Rattle.orders.specs.Order.{cleared}
 use Rattle.orders.proofs.order.cleared.Goals as goal
 

@@ -1,5 +1,5 @@
 -- An order whose open reaches 0 is dead; any other keeps its state. Assumes nothing.
-use Rattle.octets.proofs.Proving.{eq-eqb, ne_eqb, unasked}
+use Rattle.octets.proofs.Proving.{eq-eqb, ne_eqb}
 use Rattle.orders.specs.Order.{dead_if_spent}
 use Rattle.orders.proofs.order.dead_if_spent.Goals as goal
 

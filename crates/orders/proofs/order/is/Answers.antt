@@ -1,5 +1,4 @@
 -- The bit of the flag. Assumes nothing.
-use Rattle.octets.proofs.Needs.{unasked}
 use Rattle.orders.specs.Order.{◌is◌}
 use Rattle.orders.proofs.order.is.Goals as goal
 

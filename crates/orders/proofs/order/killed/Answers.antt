@@ -1,5 +1,4 @@
 -- All that is open is cut off. Assumes nothing.
-use Rattle.octets.proofs.Needs.{unasked}
 use Rattle.orders.specs.Order.{killed}
 use Rattle.orders.proofs.order.killed.Goals as goal
 

@@ -1,5 +1,4 @@
 -- Only the flags change, and of these one bit. Assumes nothing.
-use Rattle.octets.proofs.Needs.{unasked}
 use Rattle.orders.specs.Order.{marked}
 use Rattle.orders.proofs.order.marked.Goals as goal
 

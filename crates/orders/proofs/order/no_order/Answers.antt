@@ -1,5 +1,4 @@
 -- An order of no record is read from zeros.
-use Rattle.octets.proofs.Needs.{unasked}
 use Rattle.octets.specs.Bytes.{number_of, number_from}
 use Rattle.orders.specs.Counts.{new_counts}
 use Rattle.orders.specs.Order.{no_order, order_of}

@@ -1,5 +1,4 @@
 -- Field by field; its counts and details are those of no order.
-use Rattle.octets.proofs.Needs.{unasked}
 use Rattle.orders.specs.Order.{rejected_order}
 use Rattle.orders.proofs.order.rejected_order.Goals as goal
 

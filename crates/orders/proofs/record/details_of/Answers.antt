@@ -1,6 +1,5 @@
 -- Each field is read at its layout's offset.
 use Rattle.orders.specs.Order.{order_of}
-use borrow.Author.Rules.{rules}
 use Rattle.orders.proofs.record.details_of.Goals as goal
 
 pub returns : goal.returns

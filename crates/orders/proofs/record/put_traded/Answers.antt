@@ -1,5 +1,5 @@
 -- Each field is put right behind the last one. Assumes nothing.
-use Rattle.octets.proofs.Proving.{arith, rules, refl}
+use Rattle.octets.proofs.Proving.{arith, refl}
 use Rattle.wire.specs.Layout.{unbroken}
 use Rattle.wire.specs.Layout.{◌then◌, ends}
 use Rattle.wire.proofs.Puts.{puts-at}

@@ -1,5 +1,4 @@
 -- The tests are the definition. Assumes nothing.
-use Rattle.octets.proofs.Proving.{unasked}
 use Rattle.orders.specs.Sound.{counted_sound}
 use Rattle.orders.proofs.sound.counted_sound.Goals as goal
 

@@ -1,5 +1,5 @@
 -- The token is judged first; where it is not legal, nothing else matters. Assumes nothing.
-use Rattle.octets.proofs.Proving.{answered, rules, unasked}
+use Rattle.octets.proofs.Proving.{answered}
 use Rattle.orders.specs.Sound.{record_sound, unsound, state_verdict, verdict_on}
 use Rattle.orders.proofs.sound.judge_record.Goals as goal
 

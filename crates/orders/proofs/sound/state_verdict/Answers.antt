@@ -1,5 +1,5 @@
 -- A rejected token is judged by its zeros, any other record by its counts. Assumes nothing.
-use Rattle.octets.proofs.Proving.{List, ◌∙◌, ◌≡◌, answered, ap, ap₂, arith, drop, length-drop, rules, sym, take_all, true, unasked, ℕ}
+use Rattle.octets.proofs.Proving.{List, ◌∙◌, ◌≡◌, answered, ap, ap₂, arith, drop, length-drop, sym, take_all, true, ℕ}
 use Rattle.octets.specs.Bytes.{all_are}
 use Rattle.wire.specs.Letters.{rejected_token}
 use Rattle.wire.specs.declared.shares.Removed.{Removed}

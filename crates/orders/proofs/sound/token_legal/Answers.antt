@@ -1,5 +1,5 @@
 -- The loop's invariant: `ok` says that the k bytes passed stand outside the token or are legal in it. The measure is what is left of 32.
-use Rattle.octets.proofs.Proving.{Bool, ◌-◌, ◌||◌, ◌∙◌, ◌≡◌, ◌≤◌, ap, arith, eqb, leb, rules, refl, unasked}
+use Rattle.octets.proofs.Proving.{Bool, ◌-◌, ◌||◌, ◌∙◌, ◌≡◌, ap, arith, eqb, leb, refl}
 use Rattle.octets.specs.Choice.{all_below}
 use Rattle.octets.proofs.Below.{all-next}
 use Rattle.orders.proofs.Judged.{token_place, token-tests}

@@ -1,5 +1,5 @@
 -- The field's own bytes. Assumes nothing.
-use Rattle.octets.proofs.Proving.{◌∙◌, ◌≡◌, ap, arith, length, rules, ℕ}
+use Rattle.octets.proofs.Proving.{◌∙◌, ◌≡◌, ap, arith, length, ℕ}
 use Rattle.octets.specs.Bytes.{part, same}
 use Rattle.orders.specs.Order.{order_of}
 use Rattle.orders.proofs.wanted.has_stock.Goals as goal

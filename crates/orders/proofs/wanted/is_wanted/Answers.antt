@@ -1,5 +1,5 @@
 -- The state's byte, then the flags' and what is wanted. Assumes nothing.
-use Rattle.octets.proofs.Proving.{answered, rules, unasked}
+use Rattle.octets.proofs.Proving.{answered}
 use Rattle.orders.specs.Order.{order_of, ◌is◌}
 use Rattle.orders.specs.Wanted.{is_wanted}
 use Rattle.orders.proofs.wanted.is_wanted.Goals as goal

@@ -1,8 +1,8 @@
 -- Length and type are asked for at once, and then the account and the appendage, in their order. Assumes nothing.
-use Rattle.octets.proofs.Proving.{◌∙◌, arith, refl, sym, unasked}
+use Rattle.octets.proofs.Proving.{◌∙◌, arith, refl, sym}
 use Rattle.wire.specs.Layout.{blank_at, range_at, bad_place, first_bad_place, unbroken}
 use Rattle.wire.proofs.Found.{two, not-at-0}
-use Rattle.wire.proofs.Verdicts.{unframed, framed-long, framed-judged}
+use Rattle.wire.proofs.Verdicts.{unframed, framed-judged}
 use Rattle.purge.proofs.Codec.{mass_cancel}
 use Rattle.purge.proofs.mass_cancel.judge_mass_cancel.Goals as goal
 

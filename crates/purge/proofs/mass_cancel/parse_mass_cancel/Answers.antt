@@ -1,5 +1,5 @@
 -- Each field is what its leaf reads at its offset. Assumes nothing.
-use Rattle.purge.proofs.Codec.{rules, mass_cancel_of}
+use Rattle.purge.proofs.Codec.{mass_cancel_of}
 use Rattle.purge.proofs.mass_cancel.parse_mass_cancel.Goals as goal
 
 pub returns : goal.returns

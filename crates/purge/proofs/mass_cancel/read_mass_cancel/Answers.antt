@@ -1,5 +1,5 @@
 -- The answer is the judge's, and the fields are those of what it let through. Assumes nothing.
-use Rattle.purge.proofs.Codec.{unasked, rules, kept-is, kept-long, mass_cancel}
+use Rattle.purge.proofs.Codec.{kept-is, kept-long, mass_cancel}
 use Rattle.purge.proofs.mass_cancel.read_mass_cancel.Goals as goal
 
 pub parse_mass_cancel-body-requires : goal.parse_mass_cancel-body-requires

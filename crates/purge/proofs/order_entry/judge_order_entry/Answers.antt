@@ -1,8 +1,8 @@
 -- Length and type are asked for at once, and then the account. Assumes nothing.
-use Rattle.octets.proofs.Proving.{◌∙◌, arith, refl, sym, unasked}
+use Rattle.octets.proofs.Proving.{◌∙◌, refl, sym}
 use Rattle.wire.specs.Layout.{blank_at, bad_place, first_bad_place, unbroken}
 use Rattle.wire.proofs.Found.{one, not-at-0}
-use Rattle.wire.proofs.Verdicts.{unframed, framed-long, framed-judged}
+use Rattle.wire.proofs.Verdicts.{unframed, framed-judged}
 use Rattle.purge.proofs.Codec.{order_entry}
 use Rattle.purge.proofs.order_entry.judge_order_entry.Goals as goal
 

@@ -1,5 +1,5 @@
 -- Each field is what its leaf reads at its offset. Assumes nothing.
-use Rattle.purge.proofs.Codec.{rules, order_entry_of}
+use Rattle.purge.proofs.Codec.{order_entry_of}
 use Rattle.purge.proofs.order_entry.parse_order_entry.Goals as goal
 
 pub returns : goal.returns

@@ -1,5 +1,5 @@
 -- The answer is the judge's, and the fields are those of what it let through. Assumes nothing.
-use Rattle.purge.proofs.Codec.{unasked, rules, kept-is, kept-long, order_entry}
+use Rattle.purge.proofs.Codec.{kept-is, kept-long, order_entry}
 use Rattle.purge.proofs.order_entry.read_order_entry.Goals as goal
 
 pub parse_order_entry-body-requires : goal.parse_order_entry-body-requires

@@ -1,5 +1,5 @@
 -- Each return is the guard that its test led to. Assumes nothing.
-use Rattle.octets.proofs.Proving.{answered, unasked}
+use Rattle.octets.proofs.Proving.{answered}
 use Rattle.risk.specs.Listed.{of_listed}
 use Rattle.risk.specs.Blocking.{blocking_rule}
 use Rattle.risk.proofs.blocking.block.Goals as goal

@@ -1,5 +1,5 @@
 -- Each return is the guard that its tests led to. Assumes nothing.
-use Rattle.octets.proofs.Proving.{answered, denied, unasked}
+use Rattle.octets.proofs.Proving.{answered}
 use Rattle.risk.specs.Listed.{of_listed}
 use Rattle.risk.specs.Purge.{purge_rule}
 use Rattle.risk.proofs.purging.purge.Goals as goal

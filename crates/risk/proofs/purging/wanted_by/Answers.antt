@@ -1,5 +1,5 @@
 -- The firm's orders where the symbol names all, and else those in it. Assumes nothing.
-use Rattle.octets.proofs.Proving.{answered, unasked}
+use Rattle.octets.proofs.Proving.{answered}
 use Rattle.risk.specs.Purge.{wanted_by}
 use Rattle.risk.proofs.purging.wanted_by.Goals as goal
 

@@ -1,5 +1,5 @@
 -- Each return is the guard that its tests led to. Assumes nothing.
-use Rattle.octets.proofs.Proving.{answered, unasked}
+use Rattle.octets.proofs.Proving.{answered}
 use Rattle.rules.specs.Cancel.{cancel_rule}
 use Rattle.rules.proofs.Heard.{cancel-smaller}
 use Rattle.rules.proofs.cancel.cancel.Goals as goal

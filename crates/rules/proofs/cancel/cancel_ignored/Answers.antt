@@ -1,5 +1,4 @@
 -- Test for test. Assumes nothing.
-use Rattle.octets.proofs.Needs.{unasked}
 use Rattle.rules.specs.Cancel.{cancel_ignored}
 use Rattle.rules.proofs.cancel.cancel_ignored.Goals as goal
 

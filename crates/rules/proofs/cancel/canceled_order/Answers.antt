@@ -1,5 +1,5 @@
 -- Where the new open is below the present one, liable cut by the difference is what is gone and the new open. Assumes nothing.
-use Rattle.octets.proofs.Proving.{◌<◌, ◌≡◌, ap, arith, unasked, ℕ}
+use Rattle.octets.proofs.Proving.{◌<◌, ◌≡◌, ap, arith, ℕ}
 use Rattle.wire.specs.Shares.{total, ◌grown_by◌}
 use Rattle.orders.specs.Counts.{gone, open_shares, with_liable, cut}
 use Rattle.rules.specs.Cancel.{new_open, decrement, canceled_order}

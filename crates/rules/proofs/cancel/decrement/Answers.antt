@@ -1,5 +1,4 @@
 -- Each call is what it promises. Assumes nothing.
-use Rattle.octets.proofs.Needs.{unasked}
 use Rattle.rules.specs.Cancel.{decrement}
 use Rattle.rules.proofs.cancel.decrement.Goals as goal
 

@@ -1,5 +1,5 @@
 -- What is executed is taken off the size. Assumes nothing.
-use Rattle.octets.proofs.Proving.{rules, unasked}
+use Rattle.octets.proofs.Proving.{rules}
 use Rattle.rules.specs.Cancel.{new_open}
 use Rattle.rules.proofs.cancel.new_open.Goals as goal
 

@@ -1,5 +1,4 @@
 -- Test for test. Assumes nothing.
-use Rattle.octets.proofs.Needs.{unasked}
 use Rattle.rules.specs.Enter.{bad_display}
 use Rattle.rules.proofs.enter.bad_display.Goals as goal
 

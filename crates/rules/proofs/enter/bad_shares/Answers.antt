@@ -1,5 +1,4 @@
 -- Test for test. Assumes nothing.
-use Rattle.octets.proofs.Needs.{unasked}
 use Rattle.rules.specs.Enter.{bad_shares}
 use Rattle.rules.proofs.enter.bad_shares.Goals as goal
 

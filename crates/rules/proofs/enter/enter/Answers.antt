@@ -1,5 +1,5 @@
 -- Each return is the guard or the fault that was found. Assumes nothing.
-use Rattle.octets.proofs.Proving.{◌∙◌, answered, rules, sym, unasked}
+use Rattle.octets.proofs.Proving.{◌∙◌, answered, sym}
 use Rattle.rules.specs.Enter.{enter_rule, enter_outcome}
 use Rattle.rules.proofs.enter.enter.Goals as goal
 

@@ -1,5 +1,4 @@
 -- The tests from the last to the first. Assumes nothing.
-use Rattle.octets.proofs.Proving.{unasked}
 use Rattle.rules.specs.Enter.{enter_fault}
 use Rattle.rules.proofs.enter.enter_fault.Goals as goal
 

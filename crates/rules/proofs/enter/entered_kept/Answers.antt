@@ -1,5 +1,4 @@
 -- As the test says. Assumes nothing.
-use Rattle.octets.proofs.Needs.{unasked}
 use Rattle.rules.specs.Enter.{entered_kept}
 use Rattle.rules.proofs.enter.entered_kept.Goals as goal
 

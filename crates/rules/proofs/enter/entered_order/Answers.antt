@@ -1,5 +1,4 @@
 -- Each call is what it promises. Assumes nothing.
-use Rattle.octets.proofs.Needs.{unasked}
 use Rattle.rules.specs.Enter.{entered_order}
 use Rattle.rules.proofs.enter.entered_order.Goals as goal
 

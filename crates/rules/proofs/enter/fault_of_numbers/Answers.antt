@@ -1,5 +1,4 @@
 -- What is made a price is good, and what is not is not. Assumes nothing.
-use Rattle.octets.proofs.Proving.{rules, unasked}
 use Rattle.rules.specs.Enter.{fault_of_numbers, bad_price}
 use Rattle.rules.proofs.Prices.{made, not_made}
 use Rattle.rules.proofs.enter.fault_of_numbers.Goals as goal

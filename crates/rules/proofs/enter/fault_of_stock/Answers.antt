@@ -1,5 +1,4 @@
 -- The tests from the last to the first. Assumes nothing.
-use Rattle.octets.proofs.Proving.{rules, unasked}
 use Rattle.rules.specs.Enter.{bad_stock}
 use Rattle.rules.proofs.enter.fault_of_stock.Goals as goal
 

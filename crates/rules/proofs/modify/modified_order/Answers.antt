@@ -1,5 +1,4 @@
 -- Each call is what it promises. Assumes nothing.
-use Rattle.octets.proofs.Needs.{unasked}
 use Rattle.rules.specs.Modify.{modified_order}
 use Rattle.rules.proofs.modify.modified_order.Goals as goal
 

@@ -1,5 +1,4 @@
 -- Test for test. Assumes nothing.
-use Rattle.octets.proofs.Needs.{unasked}
 use Rattle.rules.specs.Modify.{modify_ignored}
 use Rattle.rules.proofs.modify.modify_ignored.Goals as goal
 

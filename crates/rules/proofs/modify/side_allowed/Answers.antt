@@ -1,5 +1,4 @@
 -- Test for test. Assumes nothing.
-use Rattle.octets.proofs.Needs.{unasked}
 use Rattle.rules.specs.Modify.{side_allowed}
 use Rattle.rules.proofs.modify.side_allowed.Goals as goal
 

@@ -1,5 +1,4 @@
 -- The one constructor, with what this decision says. Assumes nothing.
-use Rattle.octets.proofs.Needs.{unasked}
 use Rattle.rules.specs.Plan.{refused}
 use Rattle.rules.proofs.plan.refused.Goals as goal
 

@@ -1,5 +1,4 @@
 -- The one constructor, with what this decision says. Assumes nothing.
-use Rattle.octets.proofs.Needs.{unasked}
 use Rattle.rules.specs.Plan.{renumbering}
 use Rattle.rules.proofs.plan.renumbering.Goals as goal
 

@@ -1,5 +1,4 @@
 -- The plan with this stock and no order. Assumes nothing.
-use Rattle.octets.proofs.Needs.{unasked}
 use Rattle.rules.specs.Plan.{setting}
 use Rattle.rules.proofs.plan.setting.Goals as goal
 

@@ -1,5 +1,4 @@
 -- Test for test. Assumes nothing.
-use Rattle.octets.proofs.Needs.{unasked}
 use Rattle.rules.specs.Replace.{bad_beside_price}
 use Rattle.rules.proofs.replace.bad_beside_price.Goals as goal
 

@@ -1,5 +1,4 @@
 -- Each call is what it promises. Assumes nothing.
-use Rattle.octets.proofs.Needs.{unasked}
 use Rattle.rules.specs.Replace.{canceled_whole}
 use Rattle.rules.proofs.replace.canceled_whole.Goals as goal
 

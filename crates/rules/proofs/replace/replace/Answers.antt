@@ -1,5 +1,5 @@
 -- Each return is the guard that its tests led to. Assumes nothing.
-use Rattle.octets.proofs.Proving.{answered, denied, unasked}
+use Rattle.octets.proofs.Proving.{answered}
 use Rattle.rules.specs.Replace.{replace_rule}
 use Rattle.rules.proofs.replace.replace.Goals as goal
 

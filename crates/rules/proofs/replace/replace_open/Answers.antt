@@ -1,5 +1,5 @@
 -- The price is the last of the details. Assumes nothing.
-use Rattle.octets.proofs.Proving.{answered, rules, unasked}
+use Rattle.octets.proofs.Proving.{answered}
 use Rattle.rules.specs.Replace.{replace_open, bad_details}
 use Rattle.rules.specs.Enter.{bad_price}
 use Rattle.rules.proofs.Prices.{made, not_made}

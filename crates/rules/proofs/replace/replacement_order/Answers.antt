@@ -1,5 +1,4 @@
 -- Each call is what it promises. Assumes nothing.
-use Rattle.octets.proofs.Needs.{unasked}
 use Rattle.rules.specs.Replace.{replacement_order}
 use Rattle.rules.proofs.replace.replacement_order.Goals as goal
 

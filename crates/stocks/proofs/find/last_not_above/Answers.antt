@@ -1,8 +1,8 @@
 -- The loop's invariant: the place that is looked for lies among those that are left. The measure is how many halvings are left. Assumes nothing.
-use Rattle.octets.proofs.Proving.{arith, rules}
+use Rattle.octets.proofs.Proving.{arith}
 use Rattle.wire.specs.Legal.{Bytes}
 use Rattle.stocks.proofs.Good.{good-ascending, good-size, few-places}
-use Rattle.stocks.proofs.Halving.{Among, halved, closed}
+use Rattle.stocks.proofs.Halving.{halved}
 use Rattle.stocks.proofs.find.last_not_above.Goals as goal
 
 pub loop-left-init : goal.loop-left-init

@@ -1,5 +1,5 @@
 -- The last place that is not above the symbol has it, or no place has. Assumes nothing.
-use Rattle.octets.proofs.Proving.{◌∙◌, arith, rules, subst, sym, ℕ}
+use Rattle.octets.proofs.Proving.{◌∙◌, arith, subst, sym, ℕ}
 use Rattle.octets.specs.Choice.{first_below, first_from}
 use Rattle.wire.specs.Legal.{Bytes}
 use Rattle.stocks.specs.Stocks.{places_in, place_of}

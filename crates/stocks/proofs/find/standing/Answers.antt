@@ -1,5 +1,5 @@
 -- The symbol's place, and the state that stands there. Assumes nothing.
-use Rattle.octets.proofs.Proving.{arith, rules}
+use Rattle.octets.proofs.Proving.{arith}
 use Rattle.stocks.specs.Stocks.{places_in, state_at}
 use Rattle.stocks.proofs.Told.{is-trading, is-halted, is-unlisted}
 use Rattle.stocks.proofs.find.standing.Goals as goal

@@ -1,5 +1,5 @@
 -- The size, and then each place; where the size is wrong no place is looked at. Assumes nothing.
-use Rattle.octets.proofs.Proving.{Bool, ◌&&◌, ◌∙◌, ap, rules, sym, ℕ}
+use Rattle.octets.proofs.Proving.{Bool, ◌&&◌, ◌∙◌, ap, sym, ℕ}
 use Rattle.octets.specs.Choice.{all_below}
 use Rattle.stocks.specs.Stocks.{places_in, size_good, place_good, list_good}
 use Rattle.stocks.proofs.judge.list_good.Goals as goal

@@ -1,10 +1,9 @@
 -- The loop's invariant: each place before i is right, and `last` is the number of the one right before it. The measure is what is left of n.
 -- Assumes nothing.
-use Rattle.octets.proofs.Proving.{Bool, ◌&&◌, ◌+◌, ◌-◌, ◌<◌, ◌∙◌, ◌≡◌, ◌≤◌, ap, arith, ltb, rules, not-false, not-true, sym, true, ℕ}
+use Rattle.octets.proofs.Proving.{◌-◌, ◌<◌, ◌≡◌, ◌≤◌, true}
 use Rattle.octets.specs.Choice.{all_below}
 use Rattle.stocks.specs.Stocks.{place_good}
 use Rattle.stocks.specs.Ranks.{rank_at}
-use Rattle.stocks.proofs.Good.{first-judged, state-fails, orders-fail, pair-passes, last-judged}
 use Rattle.stocks.proofs.judge.places_good.Given as goal
 
 abbrev pub invariant-loop-i : goal.invariant-loop-i

@@ -1,5 +1,4 @@
 -- The byte behind the symbol. Assumes nothing.
-use Rattle.octets.proofs.Proving.{rules, unasked}
 use Rattle.stocks.specs.Stocks.{state_at}
 use Rattle.stocks.proofs.judge.state_good.Goals as goal
 

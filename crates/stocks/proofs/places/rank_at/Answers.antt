@@ -1,5 +1,5 @@
 -- The number of the bytes that are copied out. Assumes nothing.
-use Rattle.octets.proofs.Proving.{◌∙◌, ap, rules}
+use Rattle.octets.proofs.Proving.{◌∙◌, ap}
 use Rattle.octets.specs.Bytes.{number_of}
 use Rattle.stocks.specs.Stocks.{symbol_at}
 use Rattle.stocks.specs.Ranks.{rank_at}

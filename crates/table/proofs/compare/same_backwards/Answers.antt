@@ -1,5 +1,5 @@
 -- The first word from the end that differs decides, and where the first two are the same the third does. Assumes nothing.
-use Rattle.octets.proofs.Proving.{◌∙◌, ◌≡◌, ap₂, arith, eq-eqb, eqb, ne_eqb, rules, sym}
+use Rattle.octets.proofs.Proving.{◌∙◌, ◌≡◌, ap₂, arith, eq-eqb, eqb, ne_eqb, sym}
 use Rattle.wire.specs.Limits.{token_size}
 use Rattle.table.specs.Backwards.{same_backwards}
 use Rattle.table.proofs.Backwards.{same_words, in_words}

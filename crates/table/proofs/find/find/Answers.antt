@@ -1,5 +1,5 @@
 -- The first of all used records. Assumes nothing.
-use Rattle.octets.proofs.Proving.{arith, unasked}
+use Rattle.octets.proofs.Proving.{arith}
 use Rattle.table.specs.Table.{used_in, place_of}
 use Rattle.table.proofs.find.find.Goals as goal
 

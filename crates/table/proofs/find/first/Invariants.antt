@@ -1,7 +1,7 @@
 -- The loop's invariant: the first record with the token is still ahead. The measure is what is left of n.
-use Rattle.octets.proofs.Proving.{◌+◌, ◌-◌, ◌≡◌, ◌≤◌, answered, arith, rules}
-use Rattle.octets.proofs.First.{Ahead, ahead-start, ahead-found, ahead-next, ahead-end}
-use Rattle.table.specs.Table.{records_in, has_token}
+use Rattle.octets.proofs.Proving.{◌-◌, ◌≤◌}
+use Rattle.octets.proofs.First.{Ahead}
+use Rattle.table.specs.Table.{has_token}
 use Rattle.table.proofs.find.first.Given as goal
 
 abbrev pub invariant-loop-i : goal.invariant-loop-i

@@ -1,5 +1,5 @@
 -- The token of the record's bytes, compared from its end: the same test from its front. Assumes nothing.
-use Rattle.octets.proofs.Proving.{List, ◌∙◌, ap, arith, rules, ℕ}
+use Rattle.octets.proofs.Proving.{List, ◌∙◌, ap, arith, ℕ}
 use Rattle.octets.specs.Bytes.{same}
 use Rattle.octets.proofs.Laws.{length_part}
 use Rattle.wire.specs.Limits.{token_size}

@@ -1,5 +1,5 @@
 -- A place below the used records has an order, any other has none. Assumes nothing.
-use Rattle.octets.proofs.Proving.{◌∙◌, arith, le-ltb, lt-ltb, sym, unasked}
+use Rattle.octets.proofs.Proving.{arith, le-ltb, lt-ltb}
 use Rattle.table.specs.Table.{used_in, order_from}
 use Rattle.table.proofs.find.order_from.Goals as goal
 

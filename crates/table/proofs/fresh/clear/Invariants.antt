@@ -1,5 +1,5 @@
 -- The loop's invariant: the first i bytes are zero, and the table is as long as it was. The measure is what is left of it.
-use Rattle.octets.proofs.Proving.{◌-◌, ◌∙◌, ◌≡◌, ◌≤◌, add-one, ap, arith, length, length-set, rules, refl, replicate-append-replicate, sym, take, take-length, take-suc-set, ℕ}
+use Rattle.octets.proofs.Proving.{◌-◌, ◌≡◌, ◌≤◌, length, take}
 use Rattle.octets.specs.Bytes.{zeros}
 use Rattle.table.proofs.fresh.clear.Given as goal
 

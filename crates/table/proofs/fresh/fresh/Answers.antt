@@ -1,5 +1,4 @@
 -- The answer is asked first, and only done writes. Assumes nothing.
-use Rattle.octets.proofs.Proving.{◌∙◌, ◌≡◌, ap, rules, sym, unasked}
 use Rattle.answers.specs.Answer.{is_done, if_done}
 use Rattle.table.specs.Fresh.{fresh_table}
 use Rattle.table.proofs.fresh.fresh.Goals as goal

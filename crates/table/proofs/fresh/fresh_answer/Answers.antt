@@ -1,5 +1,4 @@
 -- The first that applies. Assumes nothing.
-use Rattle.octets.proofs.Needs.{unasked}
 use Rattle.table.specs.Fresh.{fresh_answer}
 use Rattle.table.proofs.fresh.fresh_answer.Goals as goal
 

@@ -1,5 +1,5 @@
 -- All that stands behind the records; where the table has no whole header that is nothing. Assumes nothing.
-use Rattle.octets.proofs.Proving.{◌*◌, ◌+◌, ◌-◌, ◌∙◌, ◌≡◌, ap, arith, dec_le, drop, drop_of_length-le, length, length-drop, min, rules, sym, take_all, unasked, ℕ}
+use Rattle.octets.proofs.Proving.{◌*◌, ◌+◌, ◌-◌, ◌∙◌, ◌≡◌, ap, arith, dec_le, drop, drop_of_length-le, length, length-drop, min, sym, take_all, ℕ}
 use Rattle.table.specs.Table.{records_in, record_place, bit_bytes}
 use Rattle.table.proofs.places.bit_bytes.Goals as goal
 

@@ -1,5 +1,5 @@
 -- The bytes before the sum, or the blank ones. Assumes nothing.
-use Rattle.octets.proofs.Proving.{ap, arith, le-ltb, length, length-take-le, lt-ltb, rules, refl}
+use Rattle.octets.proofs.Proving.{ap, arith, le-ltb, length, length-take-le, lt-ltb, refl}
 use Rattle.table.specs.Table.{head_bytes}
 use Rattle.table.proofs.places.head_bytes.Goals as goal
 

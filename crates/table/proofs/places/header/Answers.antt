@@ -1,5 +1,4 @@
 -- The header is read from its own part. Assumes nothing.
-use borrow.Author.Rules.{rules}
 use Rattle.table.specs.Table.{header}
 use Rattle.table.proofs.places.header.Goals as goal
 

@@ -1,5 +1,4 @@
 -- The order is read from its own part. Assumes nothing.
-use borrow.Author.Rules.{rules}
 use Rattle.table.specs.Table.{order_at}
 use Rattle.table.proofs.places.order_at.Goals as goal
 

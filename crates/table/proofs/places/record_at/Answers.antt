@@ -1,5 +1,5 @@
 -- The part from a record's place on, as long as a record. Assumes nothing.
-use Rattle.octets.proofs.Proving.{◌*◌, ◌+◌, add-sub_cancel_left, rules, refl}
+use Rattle.octets.proofs.Proving.{◌*◌, ◌+◌, add-sub_cancel_left, refl}
 use Rattle.octets.proofs.Laws.{length_part}
 use Rattle.table.specs.Table.{record_bytes, record_place}
 use Rattle.table.proofs.places.record_at.Goals as goal

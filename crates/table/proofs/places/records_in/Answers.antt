@@ -1,5 +1,5 @@
 -- No record in a table that has no whole header; else eight for each 641 bytes, and as many of the rest as it has room for. Assumes nothing.
-use Rattle.octets.proofs.Proving.{◌-◌, ◌≡◌, arith, length, rules}
+use Rattle.octets.proofs.Proving.{◌-◌, ◌≡◌, arith, length}
 use Rattle.table.specs.Table.{records_in}
 use Rattle.table.proofs.places.records_in.Goals as goal
 

@@ -1,5 +1,5 @@
 -- The header is put over the bytes before the sum, which are lent whole. Assumes nothing.
-use Rattle.octets.proofs.Proving.{le-leb, lt-leb, rules}
+use Rattle.octets.proofs.Proving.{le-leb, lt-leb}
 use Rattle.octets.proofs.Laws.{put-lent}
 use Rattle.table.specs.Table.{store_header}
 use Rattle.table.proofs.places.store_header.Goals as goal

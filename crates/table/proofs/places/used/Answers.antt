@@ -1,5 +1,5 @@
 -- One number of the header, read as the header reads it; a table that has no whole header has no record. Assumes nothing.
-use Rattle.octets.proofs.Proving.{◌-◌, ◌≡◌, arith, le-ltb, length, rules, unasked}
+use Rattle.octets.proofs.Proving.{◌-◌, ◌≡◌, arith, le-ltb, length, rules}
 use Rattle.header.specs.Header.{header_of}
 use Rattle.table.specs.Table.{header, head_bytes, records_in, used_in}
 use Rattle.table.proofs.places.used.Goals as goal

@@ -1,14 +1,12 @@
 -- The loop's invariant: what is left are the bits that were not looked at, and none of the others is of a record that is wanted. The measure is what
 -- is left, as a number. Assumes nothing.
-use Rattle.octets.proofs.Proving.{Bool, List, ◌&&◌, ◌*◌, ◌+◌, ◌<◌, ◌∙◌, ◌≡◌, ◌≤◌, answered, ap, arith, false, get_or, ltb, subst, sym, true, unasked, ℕ}
+use Rattle.octets.proofs.Proving.{List, ◌&&◌, ◌*◌, ◌+◌, ◌<◌, ◌∙◌, ◌≡◌, ◌≤◌, answered, ap, arith, false, get_or, subst, sym, true, ℕ}
 use Rattle.octets.specs.Choice.{first_below}
 use Rattle.octets.specs.Bits.{bit_of}
 use Rattle.octets.proofs.First.{first-within}
-use Rattle.orders.specs.Wanted.{is_wanted}
-use Rattle.orders.specs.declared.wanted.Wanted.{Wanted}
-use Rattle.table.specs.Table.{order_at, bit_bytes, is_marked}
+use Rattle.table.specs.Table.{bit_bytes, is_marked}
 use Rattle.table.proofs.Stored.{few_bits}
-use Rattle.table.proofs.Eight.{Looking, look-start, lowest-is, look-found, look-fewer, look-next, look_none, among-row}
+use Rattle.table.proofs.Eight.{look-start, lowest-is, look-found, look-fewer, look-next, look_none, among-row}
 use Rattle.table.proofs.search.among_eight.Goals as goal
 use Rattle.table.proofs.search.among_eight.Goals.{After-lowest-k}
 use Rattle.table.proofs.search.among_eight.Invariants.{test}

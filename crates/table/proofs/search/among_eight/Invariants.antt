@@ -1,14 +1,10 @@
 -- The loop's invariant: what is left are the bits that were not looked at, and none of the others is of a record that is wanted. The measure is what
 -- is left, as a number. Assumes nothing.
-use Rattle.octets.proofs.Proving.{Bool, List, ◌&&◌, ◌*◌, ◌+◌, ◌<◌, ◌∙◌, ◌≡◌, ◌≤◌, answered, ap, arith, false, get_or, ltb, subst, sym, true, unasked, ℕ}
-use Rattle.octets.specs.Choice.{first_below}
-use Rattle.octets.specs.Bits.{bit_of}
-use Rattle.octets.proofs.First.{first-within}
+use Rattle.octets.proofs.Proving.{Bool, List, ◌&&◌, ◌*◌, ◌+◌, ◌≡◌, get_or, ltb, ℕ}
 use Rattle.orders.specs.Wanted.{is_wanted}
 use Rattle.orders.specs.declared.wanted.Wanted.{Wanted}
-use Rattle.table.specs.Table.{order_at, bit_bytes, is_marked}
-use Rattle.table.proofs.Stored.{few_bits}
-use Rattle.table.proofs.Eight.{Looking, look-start, lowest-is, look-found, look-fewer, look-next, look_none, among-row}
+use Rattle.table.specs.Table.{order_at, bit_bytes}
+use Rattle.table.proofs.Eight.{Looking}
 use Rattle.table.proofs.search.among_eight.Given as goal
 
 abbrev pub test : List ℕ → Wanted → ℕ → ℕ → ℕ → Bool

@@ -1,12 +1,8 @@
 -- The loop's invariant: none of the records whose bits were passed is wanted. The measure is what is left of the bytes. Assumes nothing.
-use Rattle.octets.proofs.Proving.{Bool, List, ◌&&◌, ◌*◌, ◌-◌, ◌<◌, ◌∙◌, ◌≡◌, ◌≤◌, ap, arith, false, length, lt-ltb, ltb, ltb-true, rules, sym, unasked, ℕ}
-use Rattle.octets.proofs.Below.{both}
-use Rattle.octets.proofs.First.{first-only, none_only}
+use Rattle.octets.proofs.Proving.{Bool, List, ◌&&◌, ◌*◌, ◌-◌, ◌<◌, ◌≡◌, ◌≤◌, false, length, ltb, ℕ}
 use Rattle.orders.specs.Wanted.{is_wanted}
 use Rattle.orders.specs.declared.wanted.Wanted.{Wanted}
-use Rattle.table.specs.Table.{used_in, order_at, bit_bytes, is_marked, first_marked}
-use Rattle.table.proofs.Stored.{used-within, covers, few_bits}
-use Rattle.table.proofs.Eight.{eight-found, eight-none}
+use Rattle.table.specs.Table.{used_in, order_at, bit_bytes, is_marked}
 use Rattle.table.proofs.search.find_wanted.Given as goal
 
 abbrev pub passes : List ℕ → Wanted → ℕ → ℕ → Bool

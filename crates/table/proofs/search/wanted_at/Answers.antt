@@ -1,5 +1,5 @@
 -- The test, of the record's bytes, where it is one of the first n. Assumes nothing.
-use Rattle.octets.proofs.Proving.{le-ltb, lt-ltb, rules}
+use Rattle.octets.proofs.Proving.{lt-ltb}
 use Rattle.table.specs.Table.{order_at}
 use Rattle.table.proofs.search.wanted_at.Goals as goal
 

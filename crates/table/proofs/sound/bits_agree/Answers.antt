@@ -1,5 +1,5 @@
 -- The whole bytes, and the bits behind them. Assumes nothing.
-use Rattle.octets.proofs.Proving.{◌*◌, ◌+◌, ◌-◌, ◌/◌, ◌∙◌, ◌≡◌, ap, ap₂, arith, rules, sym, ◌&&◌, ℕ}
+use Rattle.octets.proofs.Proving.{◌*◌, ◌+◌, ◌-◌, ◌/◌, ◌∙◌, ◌≡◌, ap, ap₂, arith, sym, ◌&&◌, ℕ}
 use Rattle.octets.specs.Choice.{all_below}
 use Rattle.bitrow.proofs.Halves.{all_split}
 use Rattle.table.proofs.Judging.{agrees}

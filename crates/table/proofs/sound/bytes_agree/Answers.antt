@@ -1,9 +1,9 @@
 -- The loop's invariant: `ok` says that the bits of the bytes passed agree. The measure is what is left of m. Assumes nothing.
-use Rattle.octets.proofs.Proving.{List, ◌*◌, ◌-◌, ◌<◌, ◌^◌, ◌∙◌, ◌≡◌, ◌≤◌, ap, arith, get_or, rules, refl, subst, unasked, ℕ}
+use Rattle.octets.proofs.Proving.{List, ◌*◌, ◌-◌, ◌<◌, ◌^◌, arith, get_or, refl, subst, ℕ}
 use Rattle.octets.specs.Choice.{all_below}
 use Rattle.table.specs.Table.{bit_bytes}
 use Rattle.table.proofs.Stored.{covers}
-use Rattle.table.proofs.Judging.{agrees, eight-more}
+use Rattle.table.proofs.Judging.{eight-more}
 use Rattle.table.proofs.sound.bytes_agree.Goals as goal
 
 pub loop-at-init : goal.loop-at-init

@@ -1,9 +1,8 @@
 -- The loop's invariant: `ok` says that the bits of the bytes passed agree. The measure is what is left of m. Assumes nothing.
-use Rattle.octets.proofs.Proving.{List, ◌*◌, ◌-◌, ◌<◌, ◌^◌, ◌∙◌, ◌≡◌, ◌≤◌, ap, arith, get_or, rules, refl, subst, unasked, ℕ}
+use Rattle.octets.proofs.Proving.{◌*◌, ◌-◌, ◌≡◌, ◌≤◌}
 use Rattle.octets.specs.Choice.{all_below}
 use Rattle.table.specs.Table.{bit_bytes}
-use Rattle.table.proofs.Stored.{covers}
-use Rattle.table.proofs.Judging.{agrees, eight-more}
+use Rattle.table.proofs.Judging.{agrees}
 use Rattle.table.proofs.sound.bytes_agree.Given as goal
 
 abbrev pub invariant-loop-at : goal.invariant-loop-at

@@ -1,5 +1,5 @@
 -- The loop's invariant: the bits of the j records passed are made. The measure is what is left of the eight. Assumes nothing.
-use Rattle.octets.proofs.Proving.{Bool, List, ◌*◌, ◌+◌, ◌-◌, ◌∙◌, ◌≡◌, ◌≤◌, add-one, ap, arith, rules, refl, sym, ℕ}
+use Rattle.octets.proofs.Proving.{Bool, List, ◌+◌, ◌-◌, ◌∙◌, ◌≡◌, add-one, ap, arith, rules, refl, sym, ℕ}
 use Rattle.octets.specs.Bits.{with_bit}
 use Rattle.bitrow.specs.Row.{packed}
 use Rattle.orders.specs.Order.{order_of, is_live}

@@ -1,9 +1,8 @@
 -- The loop's invariant: the bits of the j records passed are made. The measure is what is left of the eight. Assumes nothing.
-use Rattle.octets.proofs.Proving.{Bool, List, ◌*◌, ◌+◌, ◌-◌, ◌∙◌, ◌≡◌, ◌≤◌, add-one, ap, arith, rules, refl, sym, ℕ}
-use Rattle.octets.specs.Bits.{with_bit}
+use Rattle.octets.proofs.Proving.{Bool, List, ◌*◌, ◌+◌, ◌-◌, ◌≡◌, ◌≤◌, ℕ}
 use Rattle.bitrow.specs.Row.{packed}
-use Rattle.orders.specs.Order.{order_of, is_live}
-use Rattle.table.specs.Table.{records_in, order_at}
+use Rattle.orders.specs.Order.{is_live}
+use Rattle.table.specs.Table.{order_at}
 use Rattle.table.proofs.sound.eight_live.Given as goal
 
 abbrev pub live : List ℕ → ℕ → ℕ → Bool

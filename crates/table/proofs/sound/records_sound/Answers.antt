@@ -1,5 +1,5 @@
 -- The walk, and where it finds nothing wrong, the bits and the sum. Assumes nothing.
-use Rattle.octets.proofs.Proving.{Bool, List, ◌∙◌, ◌≡◌, ap, arith, rules, sym, true, unasked, ℕ}
+use Rattle.octets.proofs.Proving.{Bool, List, ◌∙◌, ◌≡◌, ap, arith, sym, true, ℕ}
 use Rattle.octets.specs.Choice.{pick, all_below}
 use Rattle.orders.specs.Sound.{record_sound}
 use Rattle.table.specs.Table.{record_bytes, sum_below, open_at, sum_good}

@@ -1,11 +1,8 @@
 -- The loop's invariant: `ok` says that the bits passed agree. The measure is what is left of n. Assumes nothing.
-use Rattle.octets.proofs.Proving.{List, ◌+◌, ◌-◌, ◌∙◌, ◌≡◌, ◌≤◌, ap, ap₂, arith, rules, sub_self, unasked, ℕ}
-use mathlib.Core.Bool.{beq}
+use Rattle.octets.proofs.Proving.{◌+◌, ◌-◌, ◌≡◌, ◌≤◌}
 use Rattle.octets.specs.Choice.{all_below}
-use Rattle.bitrow.specs.Row.{bit_at}
-use Rattle.orders.specs.Order.{order_of, is_live}
-use Rattle.table.specs.Table.{order_at, bit_bytes, is_marked}
-use Rattle.table.proofs.Judging.{agrees, one_more}
+use Rattle.table.specs.Table.{bit_bytes}
+use Rattle.table.proofs.Judging.{agrees}
 use Rattle.table.proofs.sound.rest_agrees.Given as goal
 
 abbrev pub invariant-loop-i : goal.invariant-loop-i

@@ -1,7 +1,4 @@
 -- The number of records is asked first, so that the length that it should have does not overflow. Assumes nothing.
-use Rattle.octets.proofs.Proving.{leb, leb-true, unasked}
-use Rattle.octets.proofs.Below.{both}
-use Rattle.table.specs.Limits.{fewest_records, most_records}
 use Rattle.table.specs.Table.{size_good}
 use Rattle.table.proofs.sound.size_good.Goals as goal
 

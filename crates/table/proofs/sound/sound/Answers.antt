@@ -1,5 +1,5 @@
 -- Length, header and records, one after the other: nothing is asked of what is not there. Assumes nothing.
-use Rattle.octets.proofs.Proving.{and-true, answered, rules, unasked}
+use Rattle.octets.proofs.Proving.{and-true, answered}
 use Rattle.table.specs.Table.{sound}
 use Rattle.table.proofs.sound.sound.Goals as goal
 

@@ -1,5 +1,5 @@
 -- The length is asked first, so that byte 2 is there. Assumes nothing.
-use Rattle.octets.proofs.Proving.{answered, arith, unasked}
+use Rattle.octets.proofs.Proving.{answered, arith}
 use Rattle.table.specs.Status.{form_good}
 use Rattle.table.proofs.Soundness.{of_size, head-fits}
 use Rattle.table.proofs.status.form_good.Goals as goal

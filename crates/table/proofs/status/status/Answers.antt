@@ -1,5 +1,5 @@
 -- The two numbers, as they stand in the table. Assumes nothing.
-use Rattle.octets.proofs.Proving.{List, ◌≡◌, answered, arith, rules, true, unasked, ℕ}
+use Rattle.octets.proofs.Proving.{List, ◌≡◌, answered, arith, true, ℕ}
 use Rattle.octets.proofs.Below.{both}
 use Rattle.table.specs.Table.{size_good}
 use Rattle.table.specs.Status.{form_good, status}

@@ -1,5 +1,5 @@
 -- The record is read before anything of the table is written. Assumes nothing.
-use Rattle.octets.proofs.Proving.{arith, rules, unasked}
+use Rattle.octets.proofs.Proving.{arith}
 use Rattle.table.specs.Table.{order_at, with_open_sum, counted}
 use Rattle.table.proofs.Stored.{record-fits}
 use Rattle.table.proofs.store.count.Goals as goal

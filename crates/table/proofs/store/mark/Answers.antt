@@ -1,5 +1,5 @@
 -- The bits are lent whole, and put back with one of them as said. Assumes nothing.
-use Rattle.octets.proofs.Proving.{List, ◌*◌, ◌++◌, ◌+◌, ◌-◌, ◌∙◌, ◌≡◌, ◌≤◌, ap, arith, drop, length, rules, subst, sym, take, unasked, ℕ}
+use Rattle.octets.proofs.Proving.{List, ◌*◌, ◌++◌, ◌+◌, ◌-◌, ◌∙◌, ◌≡◌, ◌≤◌, ap, arith, drop, length, subst, sym, take, ℕ}
 use Rattle.octets.specs.Bytes.{part, put}
 use Rattle.octets.proofs.Laws.{put-lent, length-put}
 use Rattle.bitrow.specs.Row.{with_bit_at}

@@ -1,5 +1,5 @@
 -- The bit is asked first. Assumes nothing.
-use Rattle.octets.proofs.Proving.{answered, rules, unasked}
+use Rattle.octets.proofs.Proving.{answered}
 use Rattle.table.specs.Table.{order_at, is_marked, open_before}
 use Rattle.table.proofs.store.open_before.Goals as goal
 

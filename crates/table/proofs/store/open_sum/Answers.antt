@@ -1,5 +1,4 @@
 -- The number in its place. Assumes nothing.
-use Rattle.octets.proofs.Proving.{rules}
 use Rattle.table.specs.Table.{open_sum}
 use Rattle.table.proofs.store.open_sum.Goals as goal
 

@@ -1,5 +1,5 @@
 -- The order is put over its record, which is lent whole; the table is as long as it was. Assumes nothing.
-use Rattle.octets.proofs.Proving.{List, ◌<◌, arith, rules, subst, sym, ℕ}
+use Rattle.octets.proofs.Proving.{List, ◌<◌, arith, subst, sym, ℕ}
 use Rattle.octets.specs.Bytes.{put}
 use Rattle.octets.proofs.Laws.{put-lent, length-put}
 use Rattle.orders.specs.Order.{order_bytes}

@@ -1,5 +1,5 @@
 -- A record that lies in the table is stored, and no other. Assumes nothing.
-use Rattle.octets.proofs.Proving.{le-ltb, lt-ltb, rules, unasked}
+use Rattle.octets.proofs.Proving.{le-ltb, lt-ltb}
 use Rattle.table.specs.Table.{store_order}
 use Rattle.table.proofs.store.store_order.Goals as goal
 

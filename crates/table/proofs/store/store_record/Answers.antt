@@ -1,5 +1,4 @@
 -- What the record added is read before it is written over; then it is counted as it stands. Assumes nothing.
-use Rattle.octets.proofs.Proving.{rules}
 use Rattle.table.specs.Table.{store_record}
 use Rattle.table.proofs.store.store_record.Goals as goal
 

@@ -1,6 +1,6 @@
 -- The loop's invariant: each record before i is sound, and the sum is of what is open of them, each below 2 to the 32. The measure is what is left of n.
 -- Assumes nothing.
-use Rattle.octets.proofs.Proving.{Bool, List, ◌*◌, ◌-◌, ◌∙◌, ◌≡◌, ◌≤◌, ap, arith, rules, refl, sym, true, ℕ}
+use Rattle.octets.proofs.Proving.{Bool, List, ◌-◌, ◌∙◌, ◌≡◌, ap, arith, refl, sym, true, ℕ}
 use Rattle.octets.specs.Choice.{pick, all_below}
 use Rattle.octets.proofs.Below.{all_true, all-false}
 use Rattle.wire.specs.Shares.{removed}

@@ -1,15 +1,9 @@
 -- The loop's invariant: each record before i is sound, and the sum is of what is open of them, each below 2 to the 32. The measure is what is left of n.
 -- Assumes nothing.
-use Rattle.octets.proofs.Proving.{Bool, List, ◌*◌, ◌-◌, ◌∙◌, ◌≡◌, ◌≤◌, ap, arith, rules, refl, sym, true, ℕ}
-use Rattle.octets.specs.Choice.{pick, all_below}
-use Rattle.octets.proofs.Below.{all_true, all-false}
-use Rattle.wire.specs.Shares.{removed}
-use Rattle.orders.specs.Order.{order_of, open_of}
-use Rattle.orders.specs.Sound.{record_sound, verdict_on}
-use Rattle.orders.specs.declared.sound.Verdict.{Verdict}
-use Rattle.table.specs.Table.{record_bytes, order_at, sum_below, open_at}
-use Rattle.table.specs.Walk.{found_in}
-use Rattle.table.proofs.Sums.{sum-next}
+use Rattle.octets.proofs.Proving.{◌*◌, ◌-◌, ◌≡◌, ◌≤◌, true}
+use Rattle.octets.specs.Choice.{all_below}
+use Rattle.orders.specs.Sound.{record_sound}
+use Rattle.table.specs.Table.{record_bytes, sum_below, open_at}
 use Rattle.table.proofs.walk.walk.Given as goal
 
 abbrev pub invariant-loop-i : goal.invariant-loop-i

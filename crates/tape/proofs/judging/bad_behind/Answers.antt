@@ -1,5 +1,5 @@
 -- Each arm looks at the fields of its shape, in their order. Assumes nothing.
-use Rattle.octets.proofs.Proving.{arith, rules, unasked}
+use Rattle.octets.proofs.Proving.{arith}
 use Rattle.wire.specs.Layout.{token_at, liquidity_at, book_reason_at, limit_price_at, system_event_at, stock_state_at, first_bad_place}
 use Rattle.wire.proofs.Found.{one, two}
 use Rattle.tape.proofs.judging.bad_behind.Goals as goal

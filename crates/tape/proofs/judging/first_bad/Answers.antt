@@ -1,5 +1,5 @@
 -- A stamp, and what is judged behind it. Assumes nothing.
-use Rattle.octets.proofs.Proving.{◌∙◌, ap, arith, sym, unasked}
+use Rattle.octets.proofs.Proving.{◌∙◌, ap, arith, sym}
 use Rattle.wire.specs.Layout.{stamp_at, place}
 use Rattle.wire.proofs.Found.{behind}
 use Rattle.tape.specs.Kinds.{kind_of}

@@ -1,5 +1,4 @@
 -- A length that is no kind's is 0. Assumes nothing.
-use Rattle.octets.proofs.Needs.{unasked}
 use Rattle.tape.specs.Entries.{well_formed}
 use Rattle.tape.proofs.judging.well_formed.Goals as goal
 

@@ -1,5 +1,4 @@
 -- The length of the letter's kind. Assumes nothing.
-use Rattle.octets.proofs.Needs.{unasked}
 use Rattle.tape.specs.Kinds.{entry_length}
 use Rattle.tape.proofs.kinds.entry_length.Goals as goal
 

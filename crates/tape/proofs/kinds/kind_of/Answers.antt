@@ -1,5 +1,5 @@
 -- The first byte, where there is one. Assumes nothing.
-use Rattle.octets.proofs.Proving.{List·get_d-eq-default, ◌≡◌, arith, rules, unasked}
+use Rattle.octets.proofs.Proving.{List·get_d-eq-default, arith}
 use Rattle.tape.specs.Kinds.{kind_by, kind_of}
 use Rattle.tape.proofs.kinds.kind_of.Goals as goal
 

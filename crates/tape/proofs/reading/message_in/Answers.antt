@@ -1,5 +1,5 @@
 -- All that is left behind the first eight bytes. Assumes nothing.
-use Rattle.octets.proofs.Proving.{◌-◌, arith, drop, length, length-drop, length-take, rules, take_all}
+use Rattle.octets.proofs.Proving.{◌-◌, arith, drop, length, length-drop, length-take, take_all}
 use Rattle.tape.specs.Entries.{message_in}
 use Rattle.tape.proofs.reading.message_in.Goals as goal
 

@@ -1,5 +1,5 @@
 -- The client's message, parsed where it stands. Assumes nothing.
-use Rattle.octets.proofs.Proving.{◌∙◌, ap, arith, rules}
+use Rattle.octets.proofs.Proving.{◌∙◌, ap}
 use Rattle.inbound.specs.Inbound.{modify_order_of}
 use Rattle.tape.specs.Entries.{modify_of}
 use Rattle.tape.proofs.reading.modify_of.Goals as goal

@@ -1,5 +1,5 @@
 -- The first byte, where there is one. Assumes nothing.
-use Rattle.octets.proofs.Proving.{List·get_d-eq-default, arith, rules}
+use Rattle.octets.proofs.Proving.{List·get_d-eq-default, arith}
 use Rattle.tape.specs.Entries.{purges}
 use Rattle.tape.proofs.reading.purges.Goals as goal
 

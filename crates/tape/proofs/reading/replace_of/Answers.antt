@@ -1,5 +1,5 @@
 -- The client's message, parsed where it stands. Assumes nothing.
-use Rattle.octets.proofs.Proving.{◌∙◌, ap, arith, rules}
+use Rattle.octets.proofs.Proving.{◌∙◌, ap}
 use Rattle.inbound.specs.Inbound.{replace_order_of}
 use Rattle.tape.specs.Entries.{replace_of}
 use Rattle.tape.proofs.reading.replace_of.Goals as goal

@@ -1,5 +1,4 @@
 -- Each field is what its leaf says. Assumes nothing.
-use borrow.Author.Rules.{rules}
 use Rattle.tape.specs.Entries.{stamp_of}
 use Rattle.tape.proofs.reading.stamp_of.Goals as goal
 

@@ -1,5 +1,4 @@
 -- Legal bytes or zeros, either as many as the message has: once for every reader. Assumes nothing.
-use Rattle.octets.proofs.Needs.{unasked}
 use Rattle.wire.specs.Messages.{message_layout}
 use Rattle.wire.proofs.RoundTrips.{kept-is, kept-long}
 use Rattle.wire.proofs.frame.legal_or_zeros.Goals as goal

@@ -1,5 +1,5 @@
 -- What was found decides, and only a done writer puts its bytes. Assumes nothing.
-use Rattle.octets.proofs.Proving.{◌∙◌, ap, arith, length, length-take, ltb, rules, sub-zero, sym, unasked, ℕ}
+use Rattle.octets.proofs.Proving.{◌∙◌, ap, arith, length, length-take, ltb, sub-zero, sym, ℕ}
 use Rattle.octets.specs.Choice.{◌⇒◌⨾◌}
 use Rattle.answers.specs.declared.Answer.TheVariants.{NoRoom, Done}
 use Rattle.wire.specs.Messages.{message_layout}

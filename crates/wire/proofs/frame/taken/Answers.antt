@@ -1,5 +1,5 @@
 -- Each return is what the answer picks, and it is one of the two parts that came in. Assumes nothing.
-use Rattle.octets.proofs.Proving.{answered, refl, unasked}
+use Rattle.octets.proofs.Proving.{answered, refl}
 use Rattle.answers.specs.Answer.{if_done}
 use Rattle.wire.proofs.frame.taken.Goals as goal
 

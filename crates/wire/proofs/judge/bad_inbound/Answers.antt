@@ -1,7 +1,7 @@
 -- Each arm asks about the fields that its message judges, in their order. Assumes nothing.
-use Rattle.octets.proofs.Proving.{◌+◌, arith, rules, unasked}
+use Rattle.octets.proofs.Proving.{◌+◌, arith}
 use Rattle.wire.specs.Layout.{token_at, side_at, sweep_at, bad_place, first_bad_place}
-use Rattle.wire.proofs.Numbered.{inbound-long, fits-from, last-inbound}
+use Rattle.wire.proofs.Numbered.{last-inbound}
 use Rattle.wire.proofs.Found.{one, two, three}
 use Rattle.wire.proofs.judge.bad_inbound.Goals as goal
 

@@ -1,5 +1,5 @@
 -- A stamp and a token are all that is judged; from number 16 on there is no message, and nothing of it is bad. Assumes nothing.
-use Rattle.octets.proofs.Proving.{◌∙◌, ◌≤◌, arith, length, sym, unasked}
+use Rattle.octets.proofs.Proving.{◌∙◌, ◌≤◌, arith, length, sym}
 use Rattle.wire.specs.Layout.{stamp_at, token_at}
 use Rattle.wire.proofs.Found.{two}
 use Rattle.wire.proofs.Numbered.{long, stamp-or-token, no-message-place}

@@ -1,7 +1,7 @@
 -- Each arm asks about the fields that its message's layout judges, in their order. Assumes nothing.
-use Rattle.octets.proofs.Proving.{List, ◌∙◌, ap, arith, rules, unasked}
+use Rattle.octets.proofs.Proving.{List, ◌∙◌, ap, arith}
 use Rattle.wire.specs.Layout.{Field, stamp_at, token_at, bad_place, first_bad_place, place}
-use Rattle.wire.proofs.Numbered.{fits, unmoved}
+use Rattle.wire.proofs.Numbered.{unmoved}
 use Rattle.wire.proofs.Found.{one, three}
 use Rattle.wire.proofs.judge.first_bad.Goals as goal
 

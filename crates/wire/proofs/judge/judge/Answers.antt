@@ -1,8 +1,7 @@
 -- Length and type are asked for at once, and then the first bad place. Assumes nothing.
-use Rattle.octets.proofs.Proving.{unasked}
 use Rattle.wire.specs.Messages.{message_layout}
 use Rattle.wire.proofs.Numbered.{none-at-0}
-use Rattle.wire.proofs.Verdicts.{unframed, framed-by, framed-long, framed-judged}
+use Rattle.wire.proofs.Verdicts.{unframed, framed-by, framed-judged}
 use Rattle.wire.proofs.judge.judge.Goals as goal
 
 pub returns-then-is_framed : goal.returns-then-is_framed

@@ -1,7 +1,6 @@
 -- The loop's invariant: the length looked for is that among the messages not yet passed. The measure is how many they are.
 -- Assumes nothing.
-use Rattle.octets.proofs.Proving.{◌-◌, ◌∙◌, ◌≡◌, ◌≤◌, drop, eq-eqb, ne_eqb, rules, refl, sym, take}
-use Rattle.wire.specs.Messages.{messages, length_for}
+use Rattle.octets.proofs.Proving.{◌-◌, ◌∙◌, eq-eqb, ne_eqb, rules, sym}
 use Rattle.wire.proofs.Numbered.{among_next, among-end}
 use Rattle.wire.proofs.messages.length_among.Goals as goal
 

@@ -1,8 +1,7 @@
 -- The loop's invariant: the length looked for is that among the messages not yet passed. The measure is how many they are.
 -- Assumes nothing.
-use Rattle.octets.proofs.Proving.{◌-◌, ◌∙◌, ◌≡◌, ◌≤◌, drop, eq-eqb, ne_eqb, rules, refl, sym, take}
+use Rattle.octets.proofs.Proving.{◌-◌, ◌≡◌, ◌≤◌, drop, take}
 use Rattle.wire.specs.Messages.{messages, length_for}
-use Rattle.wire.proofs.Numbered.{among_next, among-end}
 use Rattle.wire.proofs.messages.length_among.Given as goal
 
 abbrev pub invariant-loop-k : goal.invariant-loop-k

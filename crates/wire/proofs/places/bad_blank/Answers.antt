@@ -1,5 +1,4 @@
 -- The text is judged as a whole. Assumes nothing.
-use Rattle.octets.proofs.Proving.{rules, unasked}
 use Rattle.wire.specs.Layout.{bad_place}
 use Rattle.wire.proofs.places.bad_blank.Goals as goal
 

@@ -1,5 +1,4 @@
 -- The letter is judged as the number that its byte spells. Assumes nothing.
-use Rattle.octets.proofs.Proving.{rules, unasked}
 use Rattle.wire.specs.Layout.{bad_place}
 use Rattle.wire.proofs.places.bad_book_reason.Goals as goal
 

@@ -1,5 +1,4 @@
 -- The price is judged as the number that its bytes spell. Assumes nothing.
-use Rattle.octets.proofs.Proving.{rules, unasked}
 use Rattle.wire.specs.Layout.{bad_place}
 use Rattle.wire.proofs.places.bad_limit_price.Goals as goal
 

@@ -1,5 +1,5 @@
 -- The one number from 0 to 0 is 0. Assumes nothing.
-use Rattle.octets.proofs.Proving.{◌&&◌, ◌≡◌, arith, eqb, leb, leb·zero, lt-leb, ne_eqb, rules, refl, suc, unasked, zero, ℕ}
+use Rattle.octets.proofs.Proving.{◌&&◌, ◌≡◌, arith, eqb, leb, leb·zero, lt-leb, ne_eqb, refl, suc, zero, ℕ}
 use Rattle.octets.specs.Bytes.{whole_at}
 use Rattle.wire.specs.Layout.{bad_place}
 use Rattle.wire.proofs.places.bad_nonzero.Goals as goal

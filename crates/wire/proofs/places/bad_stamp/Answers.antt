@@ -1,5 +1,4 @@
 -- The stamp is judged as the number that its bytes spell. Assumes nothing.
-use Rattle.octets.proofs.Proving.{rules, unasked}
 use Rattle.wire.specs.Layout.{bad_place}
 use Rattle.wire.proofs.places.bad_stamp.Goals as goal
 

@@ -1,10 +1,8 @@
 -- The loop's invariant: the first bad byte of the token is the first bad byte of what is left of it. The measure is what is left.
 -- Assumes nothing.
-use Rattle.octets.proofs.Proving.{◌+◌, ◌-◌, ◌∙◌, ◌≡◌, ◌≤◌, ap, arith, false, get_or, rules, sym, true, unasked, ℕ}
+use Rattle.octets.proofs.Proving.{◌-◌, ◌≡◌, ◌≤◌}
 use Rattle.octets.specs.Bytes.{part}
-use Rattle.wire.specs.Text.{token_byte}
-use Rattle.wire.specs.Layout.{place, bad_place, bad_token_byte}
-use Rattle.wire.proofs.Tokens.{token-next, token-bad, token_end_lem}
+use Rattle.wire.specs.Layout.{bad_token_byte}
 use Rattle.wire.proofs.places.bad_token.Given as goal
 
 abbrev pub invariant-loop-i : goal.invariant-loop-i

@@ -1,8 +1,8 @@
 -- The loop's invariant: the text is shaped where what was seen is and the rest may follow it. The measure is what is left of the length.
 -- Assumes nothing.
-use Rattle.octets.proofs.Proving.{Bool, ◌&&◌, ◌-◌, ◌∙◌, ◌≡◌, ap, drop, false, length, rules, sym, unasked}
+use Rattle.octets.proofs.Proving.{◌&&◌, ◌-◌, ◌≡◌, drop, length}
 use Rattle.wire.specs.Text.{shaped}
-use Rattle.wire.proofs.Shapes.{rest, shaped-none, shaped-first, shaped-next, shaped-end}
+use Rattle.wire.proofs.Shapes.{rest}
 use Rattle.wire.proofs.text.is_shaped.Given as goal
 
 abbrev pub invariant-loop-i : goal.invariant-loop-i

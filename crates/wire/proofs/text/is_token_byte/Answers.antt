@@ -1,5 +1,4 @@
 -- The gathered comparisons are the definition's. Assumes nothing.
-use Rattle.octets.proofs.Needs.{unasked}
 use Rattle.wire.specs.Text.{token_byte, small, digit}
 use Rattle.wire.proofs.text.is_token_byte.Goals as goal
 

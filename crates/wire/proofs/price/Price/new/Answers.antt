@@ -1,5 +1,4 @@
 -- The two tests are the definition's. Assumes nothing.
-use Rattle.octets.proofs.Needs.{unasked}
 use Rattle.wire.specs.Price.{priced_of, good_price}
 use Rattle.wire.proofs.price.Price.new.Goals as goal
 
