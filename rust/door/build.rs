@@ -8,8 +8,8 @@ use std::path::{Path, PathBuf};
 
 /// The variable that names an archive.
 const NAMED: &str = "PILAQSEVI_ARCHIVE";
-/// Where `rt staticlib port` writes it, for x86-64 only, and where `tools/native` does, for the
-/// machine at hand; seen from this package.
+/// Where `tools/archive` writes it, for x86-64 only, and where `tools/native` does, for the machine
+/// at hand; seen from this package.
 const SHIPPED: &str = "../../target/staticlib/libport.a";
 const NATIVE: &str = "../../target/native/libport.a";
 
@@ -39,7 +39,7 @@ fn archive() -> Result<PathBuf, String> {
     shipped.or(native).ok_or_else(|| {
         format!(
             "no archive of the proved functions for {built_for} was there at the build; \
-             `rt staticlib port` writes one for x86-64 and `tools/native` one for any machine"
+             `tools/archive` writes one for x86-64 and `tools/native` one for the machine at hand"
         )
     })
 }
