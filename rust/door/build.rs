@@ -8,6 +8,8 @@ use std::path::{Path, PathBuf};
 
 /// The variable that names an archive.
 const NAMED: &str = "PILAQSEVI_ARCHIVE";
+/// What it says where no archive is to be linked, though one may be there.
+const NONE: &str = "none";
 /// Where `tools/archive` writes it, for x86-64 only, and where `tools/native` does, for the machine
 /// at hand; seen from this package.
 const SHIPPED: &str = "../../target/staticlib/libport.a";
@@ -26,6 +28,9 @@ fn main() {
 /// The archive to link, or why there is none.
 fn archive() -> Result<PathBuf, String> {
     if let Some(named) = env::var_os(NAMED).filter(|named| !named.is_empty()) {
+        if named == NONE {
+            return Err(format!("{NAMED} says that none is to be linked"));
+        }
         let named = PathBuf::from(named);
         if !named.is_file() {
             println!("cargo::error={NAMED} names no file");
