@@ -12,7 +12,7 @@
  * Threads: there is no state but what is lent, so calls on different tables, rings and lists may run at once; calls that share a table, a ring
  * with its marks or a list may not, unless none of them writes it. There is no lock inside.
  *
- * Linking: the archive calls memcpy and memset of the C library and nothing else.
+ * Linking: the archive calls memcpy, memmove and memset of the C library and nothing else.
  */
 #ifndef PILAQSEVI_H
 #define PILAQSEVI_H

@@ -8,8 +8,10 @@ use std::path::{Path, PathBuf};
 
 /// The variable that names an archive.
 const NAMED: &str = "PILAQSEVI_ARCHIVE";
-/// Where `rt staticlib port` writes it, for x86-64 only, and where `tools/native` does, for the
-/// machine at hand; seen from this package.
+/// What it says where no archive is to be linked, though one may be there.
+const NONE: &str = "none";
+/// Where `tools/archive` writes it, for x86-64 only, and where `tools/native` does, for the machine
+/// at hand; seen from this package.
 const SHIPPED: &str = "../../target/staticlib/libport.a";
 const NATIVE: &str = "../../target/native/libport.a";
 
@@ -26,6 +28,9 @@ fn main() {
 /// The archive to link, or why there is none.
 fn archive() -> Result<PathBuf, String> {
     if let Some(named) = env::var_os(NAMED).filter(|named| !named.is_empty()) {
+        if named == NONE {
+            return Err(format!("{NAMED} says that none is to be linked"));
+        }
         let named = PathBuf::from(named);
         if !named.is_file() {
             println!("cargo::error={NAMED} names no file");
@@ -39,7 +44,7 @@ fn archive() -> Result<PathBuf, String> {
     shipped.or(native).ok_or_else(|| {
         format!(
             "no archive of the proved functions for {built_for} was there at the build; \
-             `rt staticlib port` writes one for x86-64 and `tools/native` one for any machine"
+             `tools/archive` writes one for x86-64 and `tools/native` one for the machine at hand"
         )
     })
 }

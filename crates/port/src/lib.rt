@@ -1,6 +1,6 @@
-// The door for C: ten functions, eight of them over lent memory. Each hands its arguments to a proved function and an answer's number back, and asks
-// nothing that a C caller could break but that its pointers and lengths are true. Where bytes are judged, the place that the answer tells is written
-// by every call.
+// The door for C, whose symbols stand in port_c: ten functions, eight of them over lent memory. Each hands its arguments to a proved function and an
+// answer's number back, and asks nothing that a C caller could break but that its pointers and lengths are true. Where bytes are judged, the place
+// that the answer tells is written by every call.
 #![tactic(auto)]
 
 mod settings;
@@ -33,16 +33,14 @@ use tape::kinds::entry_length;
 use wire::messages::message_length;
 
 // A fresh table from threshold and firms, 4 bytes each, one after the other.
-#[unsafe(no_mangle)]
-pub extern "C" fn pq_fresh(table: &mut [u8], threshold: u32, firms: &[u8]) -> u8
+pub fn pq_fresh(table: &mut [u8], threshold: u32, firms: &[u8]) -> u8
     ensures { (result ≡ answer_number (fresh_answer table.old (settings_given threshold firms.now))) × (table.new ≡ fresh_table table.old (settings_given threshold firms.now)) }
 {
     number(fresh(table, settings_given(threshold, firms)))
 }
 
 // One entry. The marks stand behind two pointers, and the place of the answer is written behind a third.
-#[unsafe(no_mangle)]
-pub extern "C" fn pq_step(
+pub fn pq_step(
     table: &mut [u8],
     ring: &mut [u8],
     at: &mut usize,
@@ -72,8 +70,7 @@ pub extern "C" fn pq_step(
 }
 
 // How many orders are live, and how many shares are open of them, as the table says; both are written by every call.
-#[unsafe(no_mangle)]
-pub extern "C" fn pq_status(table: &[u8], live: &mut usize, shares: &mut usize) -> u8
+pub fn pq_status(table: &[u8], live: &mut usize, shares: &mut usize) -> u8
     ensures { Stated (status table.now) result live.new shares.new }
 {
     let told = status(table);
@@ -84,8 +81,7 @@ pub extern "C" fn pq_status(table: &[u8], live: &mut usize, shares: &mut usize) 
 }
 
 // An old table rebuilt as one of today.
-#[unsafe(no_mangle)]
-pub extern "C" fn pq_convert(old: &[u8], table: &mut [u8]) -> u8
+pub fn pq_convert(old: &[u8], table: &mut [u8]) -> u8
     ensures { (result ≡ answer_number (convert_answer old.now (length table.old))) × (table.new ≡ converted old.now table.old) }
 {
     let rebuilt = convert(old, table);
@@ -93,8 +89,7 @@ pub extern "C" fn pq_convert(old: &[u8], table: &mut [u8]) -> u8
 }
 
 // How many bytes there are to read at the read place.
-#[unsafe(no_mangle)]
-pub extern "C" fn pq_read(ring: &[u8], at: usize, held: usize) -> usize
+pub fn pq_read(ring: &[u8], at: usize, held: usize) -> usize
     ensures { result ≡ length (read_run ring.now (marks at held)) }
 {
     let run = read(ring, Marks { at, held });
@@ -102,10 +97,9 @@ pub extern "C" fn pq_read(ring: &[u8], at: usize, held: usize) -> usize
 }
 
 // The oldest k bytes of a ring of n are given up.
-#[unsafe(no_mangle)]
-pub extern "C" fn pq_release(n: usize, at: &mut usize, held: &mut usize, k: usize) -> u8
+pub fn pq_release(n: usize, at: &mut usize, held: &mut usize, k: usize) -> u8
     ensures value { result ≡ answer_number (release_answer n (marks at.old held.old) k) }
-    ensures held_after { marks at.new held.new ≡ release_marks n (marks at.old held.old) k }
+    ensures marks_after { marks at.new held.new ≡ release_marks n (marks at.old held.old) k }
 {
     let moved = release(
         n,
@@ -123,8 +117,7 @@ pub extern "C" fn pq_release(n: usize, at: &mut usize, held: &mut usize, k: usiz
 }
 
 // A message read, as inbound where `inbound` is not 0, and written back into `out`. The place of the answer is written, too.
-#[unsafe(no_mangle)]
-pub extern "C" fn pq_echo(inbound: u8, message: &[u8], out: &mut [u8], place: &mut usize) -> u8
+pub fn pq_echo(inbound: u8, message: &[u8], out: &mut [u8], place: &mut usize) -> u8
     ensures value { (result ≡ answer_number (message_answer (not (eqb inbound 0)) message.now out.old)) × (place.new ≡ answer_place (message_answer (not (eqb inbound 0)) message.now out.old)) }
     ensures out_after { out.new ≡ message_echoed (not (eqb inbound 0)) message.now out.old }
 {
@@ -134,16 +127,9 @@ pub extern "C" fn pq_echo(inbound: u8, message: &[u8], out: &mut [u8], place: &m
 }
 
 // The entry of a message and its time, of the purge port's where `purge` is not 0, at the front of `entry`. The place of the answer is written, too.
-#[unsafe(no_mangle)]
-pub extern "C" fn pq_entry(
-    purge: u8,
-    stamp: u64,
-    message: &[u8],
-    entry: &mut [u8],
-    place: &mut usize,
-) -> u8
+pub fn pq_entry(purge: u8, stamp: u64, message: &[u8], entry: &mut [u8], place: &mut usize) -> u8
     ensures value { (result ≡ answer_number (stamp_answer (not (eqb purge 0)) stamp message.now entry.old)) × (place.new ≡ answer_place (stamp_answer (not (eqb purge 0)) stamp message.now entry.old)) }
-    ensures after { entry.new ≡ stamp_after (not (eqb purge 0)) stamp message.now entry.old }
+    ensures entry_after { entry.new ≡ stamp_after (not (eqb purge 0)) stamp message.now entry.old }
 {
     let made = stamped(purge != 0, stamp, message, entry);
     *place = answers::place(made);
@@ -151,16 +137,14 @@ pub extern "C" fn pq_entry(
 }
 
 // The length of an entry of this kind, kind byte and stamp included, so that no driver keeps a table of its own; 0 for no kind.
-#[unsafe(no_mangle)]
-pub extern "C" fn pq_entry_length(kind: u8) -> usize
+pub fn pq_entry_length(kind: u8) -> usize
     ensures { result ≡ entry_length kind }
 {
     entry_length(kind)
 }
 
 // The length of the message of this type, as inbound where `inbound` is not 0; 0 for no type.
-#[unsafe(no_mangle)]
-pub extern "C" fn pq_message_length(inbound: u8, letter: u8) -> usize
+pub fn pq_message_length(inbound: u8, letter: u8) -> usize
     ensures { result ≡ message_length (not (eqb inbound 0)) letter }
 {
     message_length(inbound != 0, letter)

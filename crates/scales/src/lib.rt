@@ -1,5 +1,5 @@
-// Six functions behind a C door of their own, for the benchmark to weigh by themselves: a step does all of this and more, and the host's door
-// calls none of them.
+// Six functions behind a C door of their own, whose symbols stand in scales_c, for the benchmark to weigh by themselves: a step does all of this and
+// more, and the host's door calls none of them.
 #![tactic(auto)]
 
 ghost use Rattle.std.specs.Prelude.{◌≡◌, true, length};
@@ -24,16 +24,14 @@ use table::search::find_wanted;
 use table::sound::sound;
 
 // 1 for a sound table, and 0.
-#[unsafe(no_mangle)]
-pub extern "C" fn pq_sound(table: &[u8]) -> u8
+pub fn pq_sound(table: &[u8]) -> u8
     ensures { result ≡ pick (sound table.now) 1 0 }
 {
     if sound(table) { 1 } else { 0 }
 }
 
 // The place of a token's first used record; the number of used records where none has it.
-#[unsafe(no_mangle)]
-pub extern "C" fn pq_find(table: &[u8], token: &[u8; 14]) -> usize
+pub fn pq_find(table: &[u8], token: &[u8; 14]) -> usize
     ensures { result ≡ place_of table.now token.now }
 {
     find(table, *token)
@@ -41,13 +39,7 @@ pub extern "C" fn pq_find(table: &[u8], token: &[u8; 14]) -> usize
 
 // The place of the first live order of the firm that isn't late, by the bits; of those in this stock alone, where `stocked` is not 0. The number of
 // used records where there is none.
-#[unsafe(no_mangle)]
-pub extern "C" fn pq_find_wanted(
-    table: &[u8],
-    firm: &[u8; 4],
-    symbol: &[u8; 8],
-    stocked: u8,
-) -> usize
+pub fn pq_find_wanted(table: &[u8], firm: &[u8; 4], symbol: &[u8; 8], stocked: u8) -> usize
     ensures { result ≡ first_marked table.now (is_wanted (wanted_given firm.now symbol.now stocked)) }
 {
     let firm = *firm;
@@ -73,8 +65,7 @@ pub extern "C" fn pq_find_wanted(
 }
 
 // A message behind the held bytes; the caller counts them.
-#[unsafe(no_mangle)]
-pub extern "C" fn pq_put(ring: &mut [u8], at: usize, held: usize, message: &[u8]) -> u8
+pub fn pq_put(ring: &mut [u8], at: usize, held: usize, message: &[u8]) -> u8
     ensures { (result ≡ answer_number (put_moved (length ring.old) (marks at held) (length message.now)).answer) × (ring.new ≡ put_ring ring.old (marks at held) message.now) }
 {
     let moved = put(ring, Marks { at, held }, message);
@@ -83,16 +74,14 @@ pub extern "C" fn pq_put(ring: &mut [u8], at: usize, held: usize, message: &[u8]
 }
 
 // 1 for a right list of stocks, and 0.
-#[unsafe(no_mangle)]
-pub extern "C" fn pq_stocks_good(stocks: &[u8]) -> u8
+pub fn pq_stocks_good(stocks: &[u8]) -> u8
     ensures { result ≡ pick (list_good stocks.now) 1 0 }
 {
     if list_good(stocks) { 1 } else { 0 }
 }
 
 // How a symbol of eight bytes stands in a list that was judged: 0 where it is not listed, 1 where it trades, 2 where it is halted.
-#[unsafe(no_mangle)]
-pub extern "C" fn pq_standing(stocks: &[u8], symbol: &[u8]) -> u8
+pub fn pq_standing(stocks: &[u8], symbol: &[u8]) -> u8
     requires { (list_good stocks.now ≡ true) × (length symbol.now ≡ symbol_size) }
     ensures { result ≡ standing_number (standing_in stocks.now symbol.now) }
 {

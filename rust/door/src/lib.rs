@@ -1,7 +1,7 @@
 //! The door to the proved host: slices in, answers out, a [`Host`] over lent memory, and a [`Desk`]
 //! that owns its memory.
 //!
-//! The functions are proved, compiled to an archive by `rt staticlib port` and linked by cargo.
+//! The functions are proved, compiled to an archive by `tools/archive` and linked by cargo.
 //! Each is total: it has an answer for every table, ring, pair of marks, list of stocks and entry,
 //! sound or not, and only [`Answer::Done`] changes anything.
 //!

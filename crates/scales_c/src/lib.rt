@@ -1,0 +1,67 @@
+// The symbols of the functions that are weighed: each is the function of scales that has its name, with the same clauses.
+#![tactic(auto)]
+
+ghost use Rattle.std.specs.Prelude.{◌≡◌, true, length};
+ghost use Rattle.answers.specs.Answer.{answer_number};
+ghost use Rattle.outbox.specs.Outbox.{put_moved, put_ring};
+ghost use Rattle.stocks.specs.Limits.{symbol_size};
+ghost use Rattle.stocks.specs.Stocks.{list_good, standing_in};
+ghost use Rattle.orders.specs.Wanted.{is_wanted};
+ghost use Rattle.table.specs.Table.{sound, place_of, first_marked};
+ghost use Rattle.octets.specs.Choice.{pick};
+ghost use Rattle.scales.specs.Numbers.{marks, standing_number, wanted_given};
+
+// 1 for a sound table, and 0.
+#[unsafe(no_mangle)]
+pub extern "C" fn pq_sound(table: &[u8]) -> u8
+    ensures { result ≡ pick (sound table.now) 1 0 }
+{
+    scales::pq_sound(table)
+}
+
+// The place of a token's first used record; the number of used records where none has it.
+#[unsafe(no_mangle)]
+pub extern "C" fn pq_find(table: &[u8], token: &[u8; 14]) -> usize
+    ensures { result ≡ place_of table.now token.now }
+{
+    scales::pq_find(table, token)
+}
+
+// The place of the first live order of the firm that isn't late, by the bits; of those in this stock alone, where `stocked` is not 0. The number of
+// used records where there is none.
+#[unsafe(no_mangle)]
+pub extern "C" fn pq_find_wanted(
+    table: &[u8],
+    firm: &[u8; 4],
+    symbol: &[u8; 8],
+    stocked: u8,
+) -> usize
+    ensures { result ≡ first_marked table.now (is_wanted (wanted_given firm.now symbol.now stocked)) }
+{
+    scales::pq_find_wanted(table, firm, symbol, stocked)
+}
+
+// A message behind the held bytes; the caller counts them.
+#[unsafe(no_mangle)]
+pub extern "C" fn pq_put(ring: &mut [u8], at: usize, held: usize, message: &[u8]) -> u8
+    ensures { (result ≡ answer_number (put_moved (length ring.old) (marks at held) (length message.now)).answer) × (ring.new ≡ put_ring ring.old (marks at held) message.now) }
+{
+    scales::pq_put(ring, at, held, message)
+}
+
+// 1 for a right list of stocks, and 0.
+#[unsafe(no_mangle)]
+pub extern "C" fn pq_stocks_good(stocks: &[u8]) -> u8
+    ensures { result ≡ pick (list_good stocks.now) 1 0 }
+{
+    scales::pq_stocks_good(stocks)
+}
+
+// How a symbol of eight bytes stands in a list that was judged: 0 where it is not listed, 1 where it trades, 2 where it is halted.
+#[unsafe(no_mangle)]
+pub extern "C" fn pq_standing(stocks: &[u8], symbol: &[u8]) -> u8
+    requires { (list_good stocks.now ≡ true) × (length symbol.now ≡ symbol_size) }
+    ensures { result ≡ standing_number (standing_in stocks.now symbol.now) }
+{
+    scales::pq_standing(stocks, symbol)
+}
