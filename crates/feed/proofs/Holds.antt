@@ -1,8 +1,7 @@
 -- Laws of what is held: bytes in front stay in front, and a read only adds behind them. Assumes nothing.
-use Rattle.octets.proofs.Proving.{Bool, List, [], ◌++◌, ◌+◌, ◌-◌, ◌∙◌, ◌≡◌, ◌≤◌, ap, arith, drop, drop-drop, eqb, false, le-leb, leb, leb-false, leb-true, length, length-append, length-drop, length-take, length-take-le, lt-leb, min, refl, sub-zero, sym, take, take_all, take-append_seam, take-take, true, ℕ}
+use Rattle.octets.proofs.Proving.{Bool, List, [], ◌++◌, ◌+◌, ◌-◌, ◌∙◌, ◌≡◌, ◌≤◌, ap, arith, drop, eqb, false, le-leb, leb, leb-false, leb-true, length, length-append, length-drop, length-take, length-take-le, min, refl, sub-zero, subst, sym, take, take_all, take-append_seam, take-take, true, ℕ}
 use Rattle.octets.specs.Choice.{pick}
 use Rattle.octets.specs.Bytes.{part}
-use Rattle.octets.proofs.Laws.{length_part}
 use Rattle.feed.specs.Feed.{Feed, Held, Refilled, Pieces, unread, Begins, Refills, behind, held_by, whole, handed_out, Next}
 
 pub begins-on : (a b c : List ℕ) → Begins a b → Begins b c → Begins a c
@@ -55,8 +54,8 @@ unfolding handed_out
 next-piece p f before after h r k e =
     let same : held_by r ≡ h = ap held_by e in
     record {
-      kept = rw same k;
-      cut = rw same e;
+      kept = subst (λ (m : Held). Begins (behind before f) (unread after m)) (sym same) k;
+      cut = subst (λ (m : Held). r ≡ handed_out p (unread after m) m f.left) (sym same) e;
       falls = rw (ap (λ (g : Feed). g.left) e) (fewer (eqb (whole p (unread after h)) 0));
     }
   where

@@ -1,4 +1,4 @@
-// A tape's entries, or the messages of a stream or of the purge port, handed out one by one as they come in on standard input.
+// A tape's entries, or the messages of a stream or of the purge port, handed out one by one as they come in.
 //
 // A program lends a buffer and asks for the next piece. It gets it as soon as its last byte is there: what has come in is taken at once, and
 // only where no whole piece is held does a read wait for more. No function asks anything of its caller.
@@ -14,6 +14,7 @@ ghost use Rattle.feed.specs.Feed.{begun, piece_of, handed_out, sooner, ended, un
 use crate::held::{Held, past, unread};
 use crate::pieces::{Pieces, whole};
 use crate::refill::{read_some, ready};
+use std::io::Read;
 
 // The piece that was handed out last begins at `at` of the buffer and has `len` bytes; what was read ends before `end`. Nothing says that an
 // input ends, and a proved loop has to: `left` counts down from more pieces than any input has, and is 0 once no piece can follow.
@@ -91,10 +92,10 @@ fn handed_out(pieces: Pieces, buffer: &[u8], held: Held, left: u64) -> Feed
 }
 
 // The piece behind the one that was handed out last. An empty one says that the input has ended.
-pub fn next(pieces: Pieces, buffer: &mut [u8], feed: Feed) -> Feed
+pub fn next<R: Read>(input: &mut R, pieces: Pieces, buffer: &mut [u8], feed: Feed) -> Feed
     ensures { Next pieces feed buffer.old buffer.new result }
 {
-    let held = ready(pieces, buffer, behind(feed));
+    let held = ready(input, pieces, buffer, behind(feed));
     handed_out(pieces, buffer, held, feed.left)
 }
 
@@ -124,10 +125,11 @@ pub fn over(feed: Feed) -> Feed
 
 // How many bytes are left over: those that are held from the last piece on, and all that the input still has. Nobody looks at them anymore,
 // so they are read over each other.
-pub fn rest(buffer: &mut [u8], feed: Feed) -> u64
+pub fn rest<R: Read>(input: &mut R, buffer: &mut [u8], feed: Feed) -> u64
     ensures { length (unread buffer.old (held_by feed)) ≤ result }
 {
-    read_on(buffer, held_count(buffer, feed))
+    let count = held_count(buffer, feed);
+    read_on(input, buffer, count)
 }
 
 fn held_count(buffer: &[u8], feed: Feed) -> u64
@@ -138,12 +140,12 @@ fn held_count(buffer: &[u8], feed: Feed) -> u64
 }
 
 // So many bytes, and as many as are read to the input's end.
-fn read_on(buffer: &mut [u8], count: u64) -> u64
+fn read_on<R: Read>(input: &mut R, buffer: &mut [u8], count: u64) -> u64
     ensures { count ≤ result }
 {
     let mut total = count;
     loop {
-        let more = read_some(buffer) as u64;
+        let more = read_some(input, buffer) as u64;
         if more == 0 {
             return total;
         }

@@ -1,12 +1,11 @@
 // Taking more of the input: the held bytes go to the buffer's front, and what has come in goes behind them.
 ghost use Rattle.std.specs.Prelude.{◌≡◌, true, ◌+◌, ◌≤◌, length, take};
-ghost use Rattle.io.specs.Counts.{IsPrefixLen};
 ghost use Rattle.octets.specs.Bytes.{part};
 ghost use Rattle.feed.specs.Feed.{unread, Begins, Refills};
 
 use crate::held::{Held, unread};
 use crate::pieces::{Pieces, waits};
-use libc::STDIN_FILENO;
+use std::io::Read;
 
 // What is held after a read, and how many bytes it brought.
 #[derive(Clone, Copy)]
@@ -17,12 +16,12 @@ pub(crate) struct Refilled {
 
 // What is held, and as much of the input behind it as makes its front a whole piece: the one loop in which the house reads. It ends without a
 // whole piece where the input does, or where no piece begins with what is there.
-pub(crate) fn ready(pieces: Pieces, buffer: &mut [u8], held: Held) -> Held
+pub(crate) fn ready<R: Read>(input: &mut R, pieces: Pieces, buffer: &mut [u8], held: Held) -> Held
     ensures { Begins (unread buffer.old held) (unread buffer.new result) }
 {
     let mut last = Refilled { held, more: 1 };
     while worth_waiting(pieces, buffer, last) {
-        last = refill(buffer, last.held);
+        last = refill(input, buffer, last.held);
     }
     last.held
 }
@@ -38,11 +37,11 @@ fn worth_waiting(pieces: Pieces, buffer: &[u8], last: Refilled) -> bool
     waits(pieces, unread(buffer, held))
 }
 
-fn refill(buffer: &mut [u8], held: Held) -> Refilled
+fn refill<R: Read>(input: &mut R, buffer: &mut [u8], held: Held) -> Refilled
     ensures { Refills buffer.old held buffer.new result }
 {
     let n = keep(buffer, held);
-    fill_behind(buffer, n)
+    fill_behind(input, buffer, n)
 }
 
 // The held bytes go to the front; the answer is how many there are.
@@ -75,11 +74,11 @@ fn slide(buffer: &mut [u8], at: usize, n: usize)
 }
 
 // The first n bytes are held, and what has come in is held behind them.
-fn fill_behind(buffer: &mut [u8], n: usize) -> Refilled
+fn fill_behind<R: Read>(input: &mut R, buffer: &mut [u8], n: usize) -> Refilled
     requires { n ≤ length buffer.old }
     ensures { (unread buffer.new result.held ≡ take (n + result.more) buffer.new) × ((take n buffer.new ≡ take n buffer.old) × (n + result.more ≤ length buffer.new)) }
 {
-    let more = read_some(&mut buffer[n..]);
+    let more = read_some(input, &mut buffer[n..]);
     Refilled {
         held: Held {
             at: 0,
@@ -89,10 +88,12 @@ fn fill_behind(buffer: &mut [u8], n: usize) -> Refilled
     }
 }
 
-// What is there, in one read: it waits only where there is nothing yet, and brings nothing where the input has ended.
-pub(crate) fn read_some(space: &mut [u8]) -> usize
-    ensures { IsPrefixLen result space.new }
+// What is there, in one read: it waits only where there is nothing yet, and brings nothing where the input has ended or the read fails.
+pub(crate) fn read_some<R: Read>(input: &mut R, space: &mut [u8]) -> usize
+    ensures { (result ≤ length space.new) × (result ≡ length (take result space.new)) }
 {
-    let got = libc::read(STDIN_FILENO, space);
-    io::count(got, space)
+    match input.read(space) {
+        Ok(n) => n,
+        Err(_) => 0,
+    }
 }

@@ -1,5 +1,5 @@
 -- A line that grows at its end: what it says is what was said, one behind the other. Assumes nothing.
-use Rattle.octets.proofs.Proving.{List, [], ◌++◌, ◌+◌, ◌∙◌, ◌≡◌, ◌≤◌, ap, append_assoc, arith, length, length-append, refl, sym, take, ℕ}
+use Rattle.octets.proofs.Proving.{List, ◌++◌, ◌+◌, ◌∙◌, ◌≡◌, ◌≤◌, ap, append_assoc, arith, length, length-append, refl, take, ℕ}
 use Rattle.octets.specs.Bytes.{put}
 use Rattle.octets.proofs.Laws.{take_put, length-put}
 use Rattle.listing.specs.Lines.{Shown, width, Fits, Adds, Says, Shows}

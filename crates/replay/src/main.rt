@@ -5,8 +5,8 @@
 // and is offered again under its number until it is not. By `outbox`, as the first word, the ring is drawn under each line as the offer left it, and
 // at the end once for each time that the reader takes from it.
 //
-// Each line is written before the next read waits. Where nobody reads standard output any longer the system ends the program; where it is full or
-// closed the program says so on standard error and stops.
+// Each line is written before the next read waits. Where standard output is full or closed, or nobody reads it any longer, the program says so on
+// standard error and stops.
 #![tactic(auto)]
 
 mod printing;
@@ -19,11 +19,12 @@ use answers::number;
 use feed::pieces::Pieces;
 use feed::{Feed, again, begin, next, over, piece};
 use host::step::step;
-use libc::{STDERR_FILENO, STDOUT_FILENO};
 use listing::lines::{FIRST_LINE, last_line, line, type_shown};
 use outbox::marks::{LONGEST_RING, Marks};
 use outbox::read::read;
 use outbox::release::release;
+use std::env::Env;
+use std::io::{Print, Stdout};
 use std::num::wrapping_add_u64;
 use words::{REFUSAL, Words, table_length, typed};
 
@@ -72,6 +73,7 @@ fn begun() -> Run {
 
 // The line of an offer and, where that is asked for, the ring under it. The message stands behind what was held before.
 fn show(
+    out: Stdout,
     ring: &[u8],
     before: Marks,
     after: Marks,
@@ -82,15 +84,19 @@ fn show(
 ) -> bool {
     let message = release(ring.len(), after, before.held);
     let sent = message.marks;
-    let printed = print(line(entries, kind, answer, type_shown(read(ring, sent))));
+    let printed = print(
+        out,
+        line(entries, kind, answer, type_shown(read(ring, sent))),
+    );
     if draws & printed {
-        return draw(ring.len(), after);
+        return draw(out, ring.len(), after);
     }
     printed
 }
 
 // One offer is played and shown, and the reader takes from the ring.
 fn play_entry(
+    out: Stdout,
     table: &mut [u8],
     ring: &mut [u8],
     stocks: &mut [u8],
@@ -105,6 +111,7 @@ fn play_entry(
     let answer = number(given);
     let entries = wrapping_add_u64(tally.entries, !tally.blocked as u64);
     let printed = show(
+        out,
         ring,
         before,
         after,
@@ -136,17 +143,18 @@ fn grown(before: Marks, after: Marks) -> u64 {
 }
 
 // The next entry, or the same once more where it was blocked.
-fn asked(tape: &mut [u8], feed: Feed, blocked: bool) -> Feed
+fn asked(rt: HostRuntime, tape: &mut [u8], feed: Feed, blocked: bool) -> Feed
     ensures { result.left ≤ feed.left - 1 }
 {
     if blocked {
         return again(feed);
     }
-    next(Pieces::Entries, tape, feed)
+    next(&mut rt.stdin(), Pieces::Entries, tape, feed)
 }
 
 // One offer, where there is an entry. What is no whole entry is the last, and the host answers 2 to it.
 fn turn(
+    rt: HostRuntime,
     table: &mut [u8],
     ring: &mut [u8],
     stocks: &mut [u8],
@@ -158,12 +166,12 @@ fn turn(
 {
     let tally = run.tally;
     let before = run.feed;
-    let feed = asked(tape, before, tally.blocked);
+    let feed = asked(rt, tape, before, tally.blocked);
     let entry = piece(tape, feed);
     if entry.len() == 0 {
         return Run { feed, tally };
     }
-    let tally = play_entry(table, ring, stocks, entry, reader, tally);
+    let tally = play_entry(rt.stdout(), table, ring, stocks, entry, reader, tally);
     if tally.printed {
         return Run { feed, tally };
     }
@@ -174,6 +182,7 @@ fn turn(
 }
 
 fn play(
+    rt: HostRuntime,
     table: &mut [u8],
     ring: &mut [u8],
     stocks: &mut [u8],
@@ -182,38 +191,47 @@ fn play(
 ) -> Tally {
     let mut run = begun();
     while 0 < run.feed.left {
-        run = turn(table, ring, stocks, tape, reader, run);
+        run = turn(rt, table, ring, stocks, tape, reader, run);
     }
     run.tally
 }
 
 // A fresh day with its list of stocks, the tape, and what came of it.
-fn play_day(table: &mut [u8], ring: &mut [u8], tape: &mut [u8], reader: Reader)
+fn play_day(rt: HostRuntime, table: &mut [u8], ring: &mut [u8], tape: &mut [u8], reader: Reader)
     requires { 1 ≤ reader.takes }
 {
     let mut stocks = desk::STOCKS;
     desk::open(table);
-    io::write_all(STDOUT_FILENO, &FIRST_LINE);
-    let tally = play(table, ring, &mut stocks, tape, reader);
-    finish(ring.len(), tally, reader);
+    let _ = rt.stdout().write_all(&FIRST_LINE);
+    let tally = play(rt, table, ring, &mut stocks, tape, reader);
+    finish(rt, ring.len(), tally, reader);
 }
 
 // The reader empties the ring, and the counts are told.
-fn finish(size: usize, tally: Tally, reader: Reader)
+fn finish(rt: HostRuntime, size: usize, tally: Tally, reader: Reader)
     requires { 1 ≤ reader.takes }
 {
     let marks = tally.marks;
     if reader.draws & tally.printed {
-        drain(size, marks, reader.takes);
+        drain(rt.stdout(), size, marks, reader.takes);
     }
-    if tally.printed & print(last_line(tally.taken, tally.sent)) {
+    if tally.printed & print(rt.stdout(), last_line(tally.taken, tally.sent)) {
         return;
     }
-    io::write_all(STDERR_FILENO, b"replay: standard output takes no more\n");
+    let _ = rt
+        .stderr()
+        .write_all(b"replay: standard output takes no more\n");
 }
 
 // As much of the table and of the ring as the words ask for.
-fn play_with(table: &mut [u8], ring: &mut [u8], tape: &mut [u8], words: Words, draws: bool)
+fn play_with(
+    rt: HostRuntime,
+    table: &mut [u8],
+    ring: &mut [u8],
+    tape: &mut [u8],
+    words: Words,
+    draws: bool,
+)
     requires { Allowed words × Roomy table.old ring.old }
 {
     let size = table_length(words);
@@ -222,27 +240,29 @@ fn play_with(table: &mut [u8], ring: &mut [u8], tape: &mut [u8], words: Words, d
         takes: words.release,
         draws,
     };
-    play_day(&mut table[0..size], &mut ring[0..length], tape, reader);
+    play_day(rt, &mut table[0..size], &mut ring[0..length], tape, reader);
 }
 
 // Whether the first word is `outbox`.
-fn asked_for_outbox() -> bool {
+fn asked_for_outbox(rt: HostRuntime) -> bool {
     let mut word = [0u8; 16];
-    let n = os::arg(1, &mut word);
-    check::same(&word[..n], b"outbox")
+    match rt.arg(1, &mut word) {
+        Ok(n) => &word[..n] == b"outbox".as_slice(),
+        Err(_) => false,
+    }
 }
 
-fn main() {
-    let draws = asked_for_outbox();
-    let heard = typed(draws);
+fn main(rt: HostRuntime) {
+    let draws = asked_for_outbox(rt);
+    let heard = typed(&rt, draws);
     if heard.good {
         let words = heard.words;
         let mut table = [0u8; desk::TABLE_SIZE];
         let mut ring = [0u8; LONGEST_RING];
         let mut tape = [0u8; 4_096];
-        play_with(&mut table, &mut ring, &mut tape, words, draws);
+        play_with(rt, &mut table, &mut ring, &mut tape, words, draws);
         return;
     }
-    io::write_all(STDERR_FILENO, b"replay: outbox may stand first; ");
-    io::write_all(STDERR_FILENO, &REFUSAL);
+    let _ = rt.stderr().write_all(b"replay: outbox may stand first; ");
+    let _ = rt.stderr().write_all(&REFUSAL);
 }

@@ -1,19 +1,19 @@
 // What is written to standard output: lines, and the drawing of a ring as it stands and as its reader empties it.
 ghost use Rattle.std.specs.Prelude.{◌≤◌, length};
 
-use libc::STDOUT_FILENO;
 use listing::drawing::ring_line;
 use listing::lines::Shown;
 use outbox::marks::Marks;
 use outbox::release::release;
+use std::io::{Print, Stdout};
 
 // Whether all of the line was written.
-pub(crate) fn print(shown: Shown) -> bool
+pub(crate) fn print(out: Stdout, shown: Shown) -> bool
     requires { shown.len ≤ length shown.bytes }
 {
     let bytes = shown.bytes;
     let len = shown.len;
-    io::write_all(STDOUT_FILENO, &bytes[0..len])
+    out.write_all(&bytes[0..len]).is_ok()
 }
 
 // No ring is as long: the drawing's numbers have 32 bits.
@@ -21,8 +21,11 @@ fn small(n: usize) -> u32 {
     (n % 4_294_967_296) as u32
 }
 
-pub(crate) fn draw(size: usize, marks: Marks) -> bool {
-    print(ring_line(small(size), small(marks.at), small(marks.held)))
+pub(crate) fn draw(out: Stdout, size: usize, marks: Marks) -> bool {
+    print(
+        out,
+        ring_line(small(size), small(marks.at), small(marks.held)),
+    )
 }
 
 // The marks after a reader took as much as it takes, or all that is held.
@@ -32,15 +35,15 @@ pub(crate) fn taken_from(size: usize, marks: Marks, takes: usize) -> Marks {
 }
 
 // The reader goes on alone until nothing is held, and the ring is drawn each time that it took, from the last offer on.
-pub(crate) fn drain(size: usize, marks: Marks, takes: usize)
+pub(crate) fn drain(out: Stdout, size: usize, marks: Marks, takes: usize)
     requires { 1 ≤ takes }
 {
     let mut now = marks;
     let mut held = marks.held;
     while 0 < held {
-        draw(size, now);
+        draw(out, size, now);
         now = taken_from(size, now, takes);
         held = held - octets::least(takes, held);
     }
-    draw(size, now);
+    draw(out, size, now);
 }

@@ -5,62 +5,63 @@ use crate::words::{
 use orders::counts::{Counts, open_shares};
 use orders::flags::Flag;
 use orders::order::{Details, Order, is};
+use std::io::Stdout;
 
 // The place is counted from 0, as the bits are: the record begins at byte 64 + 80 times the place.
-pub(crate) fn show_record(place: usize, o: Order) -> bool {
+pub(crate) fn show_record(out: Stdout, place: usize, o: Order) -> bool {
     let token = o.token;
-    say_number(b"Record ", place as u64);
-    say_token(b" ", token);
+    say_number(out, b"Record ", place as u64);
+    say_token(out, b" ", token);
     let state = o.state;
     match state {
-        b'L' => show_order(b" live", o),
-        b'D' => show_order(b" dead", o),
-        b'R' => show_state(b" rejected"),
-        _ => show_state(b" in no state"),
+        b'L' => show_order(out, b" live", o),
+        b'D' => show_order(out, b" dead", o),
+        b'R' => show_state(out, b" rejected"),
+        _ => show_state(out, b" in no state"),
     }
 }
 
 // A rejected token has a record with nothing else in it.
-fn show_state(state: &[u8]) -> bool {
-    say(state);
-    end_line()
+fn show_state(out: Stdout, state: &[u8]) -> bool {
+    say(out, state);
+    end_line(out)
 }
 
-fn show_order(state: &[u8], o: Order) -> bool {
+fn show_order(out: Stdout, state: &[u8], o: Order) -> bool {
     let shares = o.shares;
     let details = o.details;
-    say(state);
-    say_letter(b" side ", o.side);
-    say_shares(shares);
-    say_details(details);
-    say_flags(o);
-    end_line()
+    say(out, state);
+    say_letter(out, b" side ", o.side);
+    say_shares(out, shares);
+    say_details(out, details);
+    say_flags(out, o);
+    end_line(out)
 }
 
-fn say_shares(shares: Counts) {
-    say_number(b" liable ", shares.liable.0 as u64);
-    say_number(b" executed ", shares.executed.0 as u64);
-    say_number(b" self-matched ", shares.matched.0 as u64);
-    say_number(b" open ", open_shares(shares).0 as u64);
+fn say_shares(out: Stdout, shares: Counts) {
+    say_number(out, b" liable ", shares.liable.0 as u64);
+    say_number(out, b" executed ", shares.executed.0 as u64);
+    say_number(out, b" self-matched ", shares.matched.0 as u64);
+    say_number(out, b" open ", open_shares(shares).0 as u64);
 }
 
-fn say_details(details: Details) {
+fn say_details(out: Stdout, details: Details) {
     let stock = details.kept.stock;
     let firm = details.kept.firm;
-    say_stock(stock);
-    say_price(details.terms.price);
-    say_number(b" time in force ", details.terms.time as u64);
-    say_firm(firm);
+    say_stock(out, stock);
+    say_price(out, details.terms.price);
+    say_number(out, b" time in force ", details.terms.time as u64);
+    say_firm(out, firm);
 }
 
-fn say_flags(o: Order) {
+fn say_flags(out: Stdout, o: Order) {
     if is(o, Flag::Late) {
-        say(b" late");
+        say(out, b" late");
     }
     if is(o, Flag::Pending) {
-        say(b" pending");
+        say(out, b" pending");
     }
     if is(o, Flag::RejectSent) {
-        say(b" reject sent");
+        say(out, b" reject sent");
     }
 }

@@ -3,25 +3,26 @@ use crate::words::{end_line, say, say_account, say_firm, say_number, say_refused
 use answers::{Answer, is_done, place};
 use purge::mass_cancel::read_mass_cancel;
 use purge::order_entry::{DISABLE, ENABLE, OrderEntryRead, read_disable, read_enable};
+use std::io::Stdout;
 
 // The place that is told of a Mass Cancel's appendage; the only other one is an account's.
 const APPENDAGE: usize = 23;
 
 // By the type. A feed hands out messages of these types alone.
-pub(crate) fn show_request(s: &[u8]) -> bool {
+pub(crate) fn show_request(out: Stdout, s: &[u8]) -> bool {
     if s.len() == 0 {
         return true;
     }
     let letter = s[0];
     match letter {
-        b'M' => show_mass_cancel(s),
-        DISABLE => show_order_entry(b"Disable Order Entry", read_disable(s)),
-        ENABLE => show_order_entry(b"Enable Order Entry", read_enable(s)),
+        b'M' => show_mass_cancel(out, s),
+        DISABLE => show_order_entry(out, b"Disable Order Entry", read_disable(s)),
+        ENABLE => show_order_entry(out, b"Enable Order Entry", read_enable(s)),
         _ => true,
     }
 }
 
-fn show_mass_cancel(s: &[u8]) -> bool {
+fn show_mass_cancel(out: Stdout, s: &[u8]) -> bool {
     let found = read_mass_cancel(s);
     let answer = found.answer;
     if is_done(answer) {
@@ -29,44 +30,44 @@ fn show_mass_cancel(s: &[u8]) -> bool {
         let firm = m.firm;
         let account = m.account;
         let symbol = m.symbol;
-        say_number(b"Mass Cancel reference ", m.user_reference as u64);
-        say_firm(firm);
-        say_account(account);
-        say_symbol(symbol);
-        say_number(b" appendage ", m.appendage_length as u64);
-        return end_line();
+        say_number(out, b"Mass Cancel reference ", m.user_reference as u64);
+        say_firm(out, firm);
+        say_account(out, account);
+        say_symbol(out, symbol);
+        say_number(out, b" appendage ", m.appendage_length as u64);
+        return end_line(out);
     }
-    show_refused(b"Mass Cancel", answer)
+    show_refused(out, b"Mass Cancel", answer)
 }
 
 // D and E differ in their names alone.
-fn show_order_entry(name: &[u8], found: OrderEntryRead) -> bool {
+fn show_order_entry(out: Stdout, name: &[u8], found: OrderEntryRead) -> bool {
     let answer = found.answer;
     if is_done(answer) {
         let m = found.body;
         let firm = m.firm;
         let account = m.account;
-        say(name);
-        say_number(b" reference ", m.user_reference as u64);
-        say_firm(firm);
-        say_account(account);
-        return end_line();
+        say(out, name);
+        say_number(out, b" reference ", m.user_reference as u64);
+        say_firm(out, firm);
+        say_account(out, account);
+        return end_line(out);
     }
-    show_refused(name, answer)
+    show_refused(out, name, answer)
 }
 
 // By its answer, and with a bad field by a line that names it. The place is the field's first byte, which need not be the bad one, so it stands
 // there without its byte.
-fn show_refused(name: &[u8], answer: Answer) -> bool {
-    let shown = say_refused(name, answer);
+fn show_refused(out: Stdout, name: &[u8], answer: Answer) -> bool {
+    let shown = say_refused(out, name, answer);
     let at = place(answer);
     if at == 0 {
         return shown;
     }
     if at == APPENDAGE {
-        say_number(b"  bad appendage at ", at as u64);
+        say_number(out, b"  bad appendage at ", at as u64);
     } else {
-        say_number(b"  bad account at ", at as u64);
+        say_number(out, b"  bad account at ", at as u64);
     }
-    end_line()
+    end_line(out)
 }

@@ -17,77 +17,78 @@ use outbound::rejected::read_rejected;
 use outbound::replaced::read_replaced;
 use outbound::stated::Stated;
 use outbound::system_event::read_system_event;
+use std::io::Stdout;
 
 // By the type. A feed hands out messages of these types alone.
-pub(crate) fn show_message(s: &[u8]) -> bool {
+pub(crate) fn show_message(out: Stdout, s: &[u8]) -> bool {
     if s.len() == 0 {
         return true;
     }
     let letter = s[0];
     match letter {
-        b'S' => show_system_event(s),
-        b'A' => show_accepted(s),
-        b'U' => show_replaced(s),
-        b'C' => show_canceled(s),
-        b'D' => show_aiq_cancelled(s),
-        b'E' => show_executed(s),
-        b'B' => show_broken_trade(s),
-        b'J' => show_rejected(s),
-        b'P' => show_cancel_pending(s),
-        b'I' => show_cancel_reject(s),
-        b'T' => show_priority_update(s),
-        b'M' => show_modified(s),
+        b'S' => show_system_event(out, s),
+        b'A' => show_accepted(out, s),
+        b'U' => show_replaced(out, s),
+        b'C' => show_canceled(out, s),
+        b'D' => show_aiq_cancelled(out, s),
+        b'E' => show_executed(out, s),
+        b'B' => show_broken_trade(out, s),
+        b'J' => show_rejected(out, s),
+        b'P' => show_cancel_pending(out, s),
+        b'I' => show_cancel_reject(out, s),
+        b'T' => show_priority_update(out, s),
+        b'M' => show_modified(out, s),
         _ => true,
     }
 }
 
-fn show_system_event(s: &[u8]) -> bool {
+fn show_system_event(out: Stdout, s: &[u8]) -> bool {
     let found = read_system_event(s);
     let answer = found.answer;
     if is_done(answer) {
         let m = found.body;
-        say_stamp(b"System Event ", m.stamp);
-        say_letter(b" event ", m.event);
-        return end_line();
+        say_stamp(out, b"System Event ", m.stamp);
+        say_letter(out, b" event ", m.event);
+        return end_line(out);
     }
-    say_refused(b"System Event", answer)
+    say_refused(out, b"System Event", answer)
 }
 
 // What Accepted and Replaced state of an order, in the order of their bytes.
-fn say_order(order: Stated) {
+fn say_order(out: Stdout, order: Stated) {
     let stock = order.stock;
     let firm = order.firm;
-    say_letter(b" side ", order.side);
-    say_number(b" shares ", order.shares.0 as u64);
-    say_stock(stock);
-    say_price(order.price);
-    say_number(b" time in force ", order.time as u64);
-    say_firm(firm);
-    say_letter(b" display ", order.display);
-    say_number(b" reference ", order.reference);
-    say_letter(b" capacity ", order.capacity);
-    say_letter(b" sweep ", order.sweep);
-    say_number(b" minimum ", order.minimum.0 as u64);
-    say_letter(b" cross ", order.cross);
-    say_letter(b" state ", order.state);
+    say_letter(out, b" side ", order.side);
+    say_number(out, b" shares ", order.shares.0 as u64);
+    say_stock(out, stock);
+    say_price(out, order.price);
+    say_number(out, b" time in force ", order.time as u64);
+    say_firm(out, firm);
+    say_letter(out, b" display ", order.display);
+    say_number(out, b" reference ", order.reference);
+    say_letter(out, b" capacity ", order.capacity);
+    say_letter(out, b" sweep ", order.sweep);
+    say_number(out, b" minimum ", order.minimum.0 as u64);
+    say_letter(out, b" cross ", order.cross);
+    say_letter(out, b" state ", order.state);
 }
 
-fn show_accepted(s: &[u8]) -> bool {
+fn show_accepted(out: Stdout, s: &[u8]) -> bool {
     let found = read_accepted(s);
     let answer = found.answer;
     if is_done(answer) {
         let m = found.body;
         let token = m.token;
         let order = m.order;
-        say_head(b"Accepted ", m.stamp, token);
-        say_order(order);
-        say_letter(b" weight ", m.weight);
-        return end_line();
+        say_head(out, b"Accepted ", m.stamp, token);
+        say_order(out, order);
+        say_letter(out, b" weight ", m.weight);
+        return end_line(out);
     }
-    say_refused(b"Accepted", answer)
+    say_refused(out, b"Accepted", answer)
 }
 
-fn show_replaced(s: &[u8]) -> bool {
+fn show_replaced(out: Stdout, s: &[u8]) -> bool {
     let found = read_replaced(s);
     let answer = found.answer;
     if is_done(answer) {
@@ -95,138 +96,138 @@ fn show_replaced(s: &[u8]) -> bool {
         let token = m.token;
         let order = m.order;
         let previous = m.previous;
-        say_head(b"Replaced ", m.stamp, token);
-        say_order(order);
-        say_token(b" previous ", previous);
-        say_letter(b" weight ", m.weight);
-        return end_line();
+        say_head(out, b"Replaced ", m.stamp, token);
+        say_order(out, order);
+        say_token(out, b" previous ", previous);
+        say_letter(out, b" weight ", m.weight);
+        return end_line(out);
     }
-    say_refused(b"Replaced", answer)
+    say_refused(out, b"Replaced", answer)
 }
 
-fn show_canceled(s: &[u8]) -> bool {
+fn show_canceled(out: Stdout, s: &[u8]) -> bool {
     let found = read_canceled(s);
     let answer = found.answer;
     if is_done(answer) {
         let m = found.body;
         let token = m.token;
-        say_head(b"Canceled ", m.stamp, token);
-        say_number(b" decrement ", m.decrement.0 as u64);
-        say_letter(b" reason ", m.reason);
-        return end_line();
+        say_head(out, b"Canceled ", m.stamp, token);
+        say_number(out, b" decrement ", m.decrement.0 as u64);
+        say_letter(out, b" reason ", m.reason);
+        return end_line(out);
     }
-    say_refused(b"Canceled", answer)
+    say_refused(out, b"Canceled", answer)
 }
 
-fn show_aiq_cancelled(s: &[u8]) -> bool {
+fn show_aiq_cancelled(out: Stdout, s: &[u8]) -> bool {
     let found = read_aiq_cancelled(s);
     let answer = found.answer;
     if is_done(answer) {
         let m = found.body;
         let token = m.token;
-        say_head(b"AIQ Cancelled ", m.stamp, token);
-        say_number(b" decrement ", m.decrement.0 as u64);
-        say_letter(b" reason ", m.reason);
-        say_number(b" prevented ", m.prevented.0 as u64);
-        say_price(m.price);
-        say_letter(b" flag ", m.flag);
-        return end_line();
+        say_head(out, b"AIQ Cancelled ", m.stamp, token);
+        say_number(out, b" decrement ", m.decrement.0 as u64);
+        say_letter(out, b" reason ", m.reason);
+        say_number(out, b" prevented ", m.prevented.0 as u64);
+        say_price(out, m.price);
+        say_letter(out, b" flag ", m.flag);
+        return end_line(out);
     }
-    say_refused(b"AIQ Cancelled", answer)
+    say_refused(out, b"AIQ Cancelled", answer)
 }
 
-fn show_executed(s: &[u8]) -> bool {
+fn show_executed(out: Stdout, s: &[u8]) -> bool {
     let found = read_executed(s);
     let answer = found.answer;
     if is_done(answer) {
         let m = found.body;
         let token = m.token;
-        say_head(b"Executed ", m.stamp, token);
-        say_number(b" shares ", m.shares.0 as u64);
-        say_price(m.price);
-        say_letter(b" flag ", m.flag);
-        say_number(b" match number ", m.match_number);
-        return end_line();
+        say_head(out, b"Executed ", m.stamp, token);
+        say_number(out, b" shares ", m.shares.0 as u64);
+        say_price(out, m.price);
+        say_letter(out, b" flag ", m.flag);
+        say_number(out, b" match number ", m.match_number);
+        return end_line(out);
     }
-    say_refused(b"Executed", answer)
+    say_refused(out, b"Executed", answer)
 }
 
-fn show_broken_trade(s: &[u8]) -> bool {
+fn show_broken_trade(out: Stdout, s: &[u8]) -> bool {
     let found = read_broken_trade(s);
     let answer = found.answer;
     if is_done(answer) {
         let m = found.body;
         let token = m.token;
-        say_head(b"Broken Trade ", m.stamp, token);
-        say_number(b" match number ", m.match_number);
-        say_letter(b" reason ", m.reason);
-        return end_line();
+        say_head(out, b"Broken Trade ", m.stamp, token);
+        say_number(out, b" match number ", m.match_number);
+        say_letter(out, b" reason ", m.reason);
+        return end_line(out);
     }
-    say_refused(b"Broken Trade", answer)
+    say_refused(out, b"Broken Trade", answer)
 }
 
-fn show_rejected(s: &[u8]) -> bool {
+fn show_rejected(out: Stdout, s: &[u8]) -> bool {
     let found = read_rejected(s);
     let answer = found.answer;
     if is_done(answer) {
         let m = found.body;
         let token = m.token;
-        say_head(b"Rejected ", m.stamp, token);
-        say_letter(b" reason ", m.reason);
-        return end_line();
+        say_head(out, b"Rejected ", m.stamp, token);
+        say_letter(out, b" reason ", m.reason);
+        return end_line(out);
     }
-    say_refused(b"Rejected", answer)
+    say_refused(out, b"Rejected", answer)
 }
 
-fn show_cancel_pending(s: &[u8]) -> bool {
+fn show_cancel_pending(out: Stdout, s: &[u8]) -> bool {
     let found = read_cancel_pending(s);
     let answer = found.answer;
     if is_done(answer) {
         let m = found.body;
         let token = m.token;
-        say_head(b"Cancel Pending ", m.stamp, token);
-        return end_line();
+        say_head(out, b"Cancel Pending ", m.stamp, token);
+        return end_line(out);
     }
-    say_refused(b"Cancel Pending", answer)
+    say_refused(out, b"Cancel Pending", answer)
 }
 
-fn show_cancel_reject(s: &[u8]) -> bool {
+fn show_cancel_reject(out: Stdout, s: &[u8]) -> bool {
     let found = read_cancel_reject(s);
     let answer = found.answer;
     if is_done(answer) {
         let m = found.body;
         let token = m.token;
-        say_head(b"Cancel Reject ", m.stamp, token);
-        return end_line();
+        say_head(out, b"Cancel Reject ", m.stamp, token);
+        return end_line(out);
     }
-    say_refused(b"Cancel Reject", answer)
+    say_refused(out, b"Cancel Reject", answer)
 }
 
-fn show_priority_update(s: &[u8]) -> bool {
+fn show_priority_update(out: Stdout, s: &[u8]) -> bool {
     let found = read_priority_update(s);
     let answer = found.answer;
     if is_done(answer) {
         let m = found.body;
         let token = m.token;
-        say_head(b"Priority Update ", m.stamp, token);
-        say_price(m.price);
-        say_letter(b" display ", m.display);
-        say_number(b" reference ", m.reference);
-        return end_line();
+        say_head(out, b"Priority Update ", m.stamp, token);
+        say_price(out, m.price);
+        say_letter(out, b" display ", m.display);
+        say_number(out, b" reference ", m.reference);
+        return end_line(out);
     }
-    say_refused(b"Priority Update", answer)
+    say_refused(out, b"Priority Update", answer)
 }
 
-fn show_modified(s: &[u8]) -> bool {
+fn show_modified(out: Stdout, s: &[u8]) -> bool {
     let found = read_modified(s);
     let answer = found.answer;
     if is_done(answer) {
         let m = found.body;
         let token = m.token;
-        say_head(b"Modified ", m.stamp, token);
-        say_letter(b" side ", m.side);
-        say_number(b" shares ", m.shares.0 as u64);
-        return end_line();
+        say_head(out, b"Modified ", m.stamp, token);
+        say_letter(out, b" side ", m.side);
+        say_number(out, b" shares ", m.shares.0 as u64);
+        return end_line(out);
     }
-    say_refused(b"Modified", answer)
+    say_refused(out, b"Modified", answer)
 }

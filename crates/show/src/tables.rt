@@ -5,6 +5,7 @@ use answers::{Answer, is_done};
 use header::firms::{MOST_FIRMS, firm_at, firm_blocked};
 use header::{BEFORE, CLOSED, HEADER_SIZE, Header, OPEN};
 use octets::{byte_at, least};
+use std::io::Stdout;
 use table::find::order_from;
 use table::places::{header, records_in, used};
 use table::sound::{size_good, sound};
@@ -14,27 +15,27 @@ use table::status::{Tally, status};
 const LONGEST_TABLE: usize = 64_164;
 
 // One that is not sound is shown as far as it goes, so that what is wrong in it can be seen.
-pub(crate) fn show_table(table: &[u8]) -> bool {
+pub(crate) fn show_table(out: Stdout, table: &[u8]) -> bool {
     let tally = status(table);
     let answer = tally.answer;
     if is_done(answer) {
-        return show_tally(table, tally)
-            && show_day(header(table))
-            && show_firms(header(table))
-            && show_records(table);
+        return show_tally(out, table, tally)
+            && show_day(out, header(table))
+            && show_firms(out, header(table))
+            && show_records(out, table);
     }
-    show_refused(table, answer)
+    show_refused(out, table, answer)
 }
 
 // By its answer, and by a line that says which of the two is no table's: the length, or the form in byte 2.
-fn show_refused(table: &[u8], answer: Answer) -> bool {
-    say_refused(b"Table", answer);
+fn show_refused(out: Stdout, table: &[u8], answer: Answer) -> bool {
+    say_refused(out, b"Table", answer);
     if size_good(table) & (HEADER_SIZE <= table.len()) {
-        say_number(b"  bad form at 2: byte ", form(table) as u64);
+        say_number(out, b"  bad form at 2: byte ", form(table) as u64);
     } else {
-        say_length(table.len());
+        say_length(out, table.len());
     }
-    end_line()
+    end_line(out)
 }
 
 fn form(table: &[u8]) -> u8 {
@@ -45,59 +46,59 @@ fn form(table: &[u8]) -> u8 {
 }
 
 // No more is read of an input that is too long.
-fn say_length(n: usize) {
+fn say_length(out: Stdout, n: usize) {
     if LONGEST_TABLE < n {
-        say_number(b"  bad length, above ", LONGEST_TABLE as u64);
+        say_number(out, b"  bad length, above ", LONGEST_TABLE as u64);
     } else {
-        say_number(b"  bad length ", n as u64);
+        say_number(out, b"  bad length ", n as u64);
     }
 }
 
-fn show_tally(table: &[u8], tally: Tally) -> bool {
+fn show_tally(out: Stdout, table: &[u8], tally: Tally) -> bool {
     if sound(table) {
-        say(b"Table sound");
+        say(out, b"Table sound");
     } else {
-        say(b"Table not sound");
+        say(out, b"Table not sound");
     }
-    say_number(b" live orders ", tally.live as u64);
-    say_number(b" open shares ", tally.shares as u64);
-    say_number(b" records used ", used(table) as u64);
-    say_number(b" of ", records_in(table) as u64);
-    end_line()
+    say_number(out, b" live orders ", tally.live as u64);
+    say_number(out, b" open shares ", tally.shares as u64);
+    say_number(out, b" records used ", used(table) as u64);
+    say_number(out, b" of ", records_in(table) as u64);
+    end_line(out)
 }
 
-fn say_day(day: u8) {
+fn say_day(out: Stdout, day: u8) {
     match day {
-        BEFORE => say(b"Day not begun"),
-        OPEN => say(b"Day open"),
-        CLOSED => say(b"Day closed"),
-        _ => say(b"Day in no state"),
+        BEFORE => say(out, b"Day not begun"),
+        OPEN => say(out, b"Day open"),
+        CLOSED => say(out, b"Day closed"),
+        _ => say(out, b"Day in no state"),
     }
 }
 
-fn show_day(h: Header) -> bool {
-    say_day(h.day);
-    say_stamp(b" last stamp ", h.last);
-    say_number(b" next reference ", h.reference);
-    say_number(b" threshold ", h.threshold.0 as u64);
-    end_line()
+fn show_day(out: Stdout, h: Header) -> bool {
+    say_day(out, h.day);
+    say_stamp(out, b" last stamp ", h.last);
+    say_number(out, b" next reference ", h.reference);
+    say_number(out, b" threshold ", h.threshold.0 as u64);
+    end_line(out)
 }
 
-fn show_firm(h: Header, firm: [u8; 4]) -> bool {
-    say(b"Listed");
-    say_firm(firm);
+fn show_firm(out: Stdout, h: Header, firm: [u8; 4]) -> bool {
+    say(out, b"Listed");
+    say_firm(out, firm);
     if firm_blocked(h, firm) {
-        say(b" blocked");
+        say(out, b" blocked");
     }
-    end_line()
+    end_line(out)
 }
 
-fn show_firms(h: Header) -> bool {
+fn show_firms(out: Stdout, h: Header) -> bool {
     let firms = h.firms;
     let n = least(h.count as usize, MOST_FIRMS);
     let mut k: usize = 0;
     while k < n {
-        if show_firm(h, firm_at(firms, k)) {
+        if show_firm(out, h, firm_at(firms, k)) {
             k += 1;
         } else {
             return false;
@@ -106,11 +107,11 @@ fn show_firms(h: Header) -> bool {
     true
 }
 
-fn show_records(table: &[u8]) -> bool {
+fn show_records(out: Stdout, table: &[u8]) -> bool {
     let n = used(table);
     let mut i: usize = 0;
     while i < n {
-        if show_record(i, order_from(table, i)) {
+        if show_record(out, i, order_from(table, i)) {
             i += 1;
         } else {
             return false;

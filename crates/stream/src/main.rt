@@ -4,8 +4,8 @@
 // is blocked is offered again until it is not, and at the end the reader takes what is still held. So the bytes are the same whatever the ring and
 // its reader are.
 //
-// What the reader took of a message is written before the next read waits. Where nobody reads standard output any longer the system ends the
-// program; where it is full or closed the program says so on standard error and stops.
+// What the reader took of a message is written before the next read waits. Where standard output is full or closed, or nobody reads it any
+// longer, the program says so on standard error and stops.
 #![tactic(auto)]
 
 ghost use Rattle.std.specs.Prelude.{◌-◌, ◌≤◌};
@@ -15,10 +15,10 @@ use answers::number;
 use feed::pieces::Pieces;
 use feed::{Feed, again, begin, next, over, piece};
 use host::step::step;
-use libc::{STDERR_FILENO, STDOUT_FILENO};
 use outbox::marks::{LONGEST_RING, Marks};
 use outbox::read::read;
 use outbox::release::release;
+use std::io::{Print, Stdout};
 use words::{REFUSAL, Words, table_length, typed};
 
 // The answer to an entry whose message has no room.
@@ -53,10 +53,10 @@ fn begun() -> Run {
 }
 
 // The run at the read place, or as much of it as the reader takes, is written and given up.
-fn send_run(ring: &[u8], marks: Marks, takes: usize) -> Sending {
+fn send_run(out: Stdout, ring: &[u8], marks: Marks, takes: usize) -> Sending {
     let run = read(ring, marks);
     let n = octets::least(takes, run.len());
-    let written = io::write_all(STDOUT_FILENO, &run[0..n]);
+    let written = out.write_all(&run[0..n]).is_ok();
     let moved = release(ring.len(), marks, n);
     let marks = moved.marks;
     Sending {
@@ -67,27 +67,28 @@ fn send_run(ring: &[u8], marks: Marks, takes: usize) -> Sending {
 }
 
 // What is held may go on at the ring's start, so it is two runs.
-fn send(ring: &[u8], marks: Marks, takes: usize) -> Sending {
-    let first = send_run(ring, marks, takes);
+fn send(out: Stdout, ring: &[u8], marks: Marks, takes: usize) -> Sending {
+    let first = send_run(out, ring, marks, takes);
     if first.written {
         let marks = first.marks;
-        return send_run(ring, marks, first.takes);
+        return send_run(out, ring, marks, first.takes);
     }
     first
 }
 
 // The next entry, or the same once more where it was blocked.
-fn asked(tape: &mut [u8], feed: Feed, blocked: bool) -> Feed
+fn asked(rt: HostRuntime, tape: &mut [u8], feed: Feed, blocked: bool) -> Feed
     ensures { result.left ≤ feed.left - 1 }
 {
     if blocked {
         return again(feed);
     }
-    next(Pieces::Entries, tape, feed)
+    next(&mut rt.stdin(), Pieces::Entries, tape, feed)
 }
 
 // One offer, and the reader takes from the ring.
 fn offered(
+    out: Stdout,
     table: &mut [u8],
     ring: &mut [u8],
     stocks: &mut [u8],
@@ -101,7 +102,7 @@ fn offered(
     let stepped = step(table, ring, marks, stocks, entry);
     let answer = stepped.answer;
     let after = stepped.marks;
-    let sending = send(ring, after, takes);
+    let sending = send(out, ring, after, takes);
     let marks = sending.marks;
     let blocked = number(answer) == BLOCKED;
     let written = sending.written;
@@ -123,6 +124,7 @@ fn offered(
 
 // One offer, where there is an entry. What is no whole entry is the last, and the host takes nothing of it.
 fn turn(
+    rt: HostRuntime,
     table: &mut [u8],
     ring: &mut [u8],
     stocks: &mut [u8],
@@ -134,7 +136,7 @@ fn turn(
 {
     let before = run.feed;
     let marks = run.marks;
-    let feed = asked(tape, before, run.blocked);
+    let feed = asked(rt, tape, before, run.blocked);
     let entry = piece(tape, feed);
     if entry.len() == 0 {
         return Run {
@@ -144,10 +146,11 @@ fn turn(
             written: run.written,
         };
     }
-    offered(table, ring, stocks, entry, marks, takes, feed)
+    offered(rt.stdout(), table, ring, stocks, entry, marks, takes, feed)
 }
 
 fn play(
+    rt: HostRuntime,
     table: &mut [u8],
     ring: &mut [u8],
     stocks: &mut [u8],
@@ -156,37 +159,40 @@ fn play(
 ) -> Run {
     let mut run = begun();
     while 0 < run.feed.left {
-        run = turn(table, ring, stocks, tape, takes, run);
+        run = turn(rt, table, ring, stocks, tape, takes, run);
     }
     run
 }
 
 // A fresh day with its list of stocks, and the tape; at the end the reader takes all that is held.
-fn play_day(table: &mut [u8], ring: &mut [u8], tape: &mut [u8], takes: usize) {
+fn play_day(rt: HostRuntime, table: &mut [u8], ring: &mut [u8], tape: &mut [u8], takes: usize) {
     let mut stocks = desk::STOCKS;
     desk::open(table);
-    let run = play(table, ring, &mut stocks, tape, takes);
-    finish(ring, run);
+    let run = play(rt, table, ring, &mut stocks, tape, takes);
+    finish(rt, ring, run);
 }
 
-fn finish(ring: &[u8], run: Run) {
+fn finish(rt: HostRuntime, ring: &[u8], run: Run) {
     if run.written {
         let marks = run.marks;
-        let sending = send(ring, marks, LONGEST_RING);
+        let sending = send(rt.stdout(), ring, marks, LONGEST_RING);
         if sending.written {
             return;
         }
     }
-    io::write_all(STDERR_FILENO, b"stream: standard output takes no more\n");
+    let _ = rt
+        .stderr()
+        .write_all(b"stream: standard output takes no more\n");
 }
 
 // As much of the table and of the ring as the words ask for.
-fn play_with(table: &mut [u8], ring: &mut [u8], tape: &mut [u8], words: Words)
+fn play_with(rt: HostRuntime, table: &mut [u8], ring: &mut [u8], tape: &mut [u8], words: Words)
     requires { Allowed words × Roomy table.old ring.old }
 {
     let size = table_length(words);
     let length = words.ring;
     play_day(
+        rt,
         &mut table[0..size],
         &mut ring[0..length],
         tape,
@@ -194,16 +200,16 @@ fn play_with(table: &mut [u8], ring: &mut [u8], tape: &mut [u8], words: Words)
     );
 }
 
-fn main() {
-    let heard = typed(false);
+fn main(rt: HostRuntime) {
+    let heard = typed(&rt, false);
     if heard.good {
         let words = heard.words;
         let mut table = [0u8; desk::TABLE_SIZE];
         let mut ring = [0u8; LONGEST_RING];
         let mut tape = [0u8; 4_096];
-        play_with(&mut table, &mut ring, &mut tape, words);
+        play_with(rt, &mut table, &mut ring, &mut tape, words);
         return;
     }
-    io::write_all(STDERR_FILENO, b"stream: ");
-    io::write_all(STDERR_FILENO, &REFUSAL);
+    let _ = rt.stderr().write_all(b"stream: ");
+    let _ = rt.stderr().write_all(&REFUSAL);
 }
