@@ -1,9 +1,18 @@
 -- Words stay within their limits, whatever is heard. Assumes nothing.
 use lib.Pointwise.{pointwise}
-use Rattle.octets.proofs.Proving.{Bool, List, [], ◌∷◌, ◌&&◌, ◌≡◌, ◌≤◌, ap, eqb, guard, leb, leb-true, lit≤, refl, true, ℕ}
+use Rattle.octets.proofs.Proving.{Bool, List, [], ◌∷◌, ◌&&◌, ◌≡◌, ◌≤◌, ap, eqb, false, guard, leb, leb-true, lit≤, refl, subst, sym, true, ℕ}
 use Rattle.octets.specs.Bytes.{same}
-use Rattle.octets.proofs.Below.{both}
+use Rattle.octets.proofs.Below.{same_true, same_self, both}
 use Rattle.words.specs.Words.{Words, Word, Ring, Release, Records, Unknown, Heard, usual, takes, with_word, word_of, number_in, heard, Allowed}
+
+-- a test that is true exactly of equal texts is the computed one
+pub same-tells : (xs ys : List ℕ) (b : Bool) → (b ≡ true → xs ≡ ys) × (xs ≡ ys → b ≡ true) → b ≡ same xs ys
+same-tells xs ys true (equal, told) = sym (subst (λ (l : List ℕ). same xs l ≡ true) (equal refl) (same_self xs))
+same-tells xs ys false (equal, told) = by (same xs ys) refl
+  where
+    by : (d : Bool) → same xs ys ≡ d → false ≡ d
+    by false e = refl
+    by true e = told (same_true xs ys e)
 
 -- the comparison of two texts, byte by byte, is the computed one
 pub compared : (xs ys : List ℕ) → pointwise eqb xs ys ≡ same xs ys
