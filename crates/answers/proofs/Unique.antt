@@ -2,5 +2,5 @@
 use Rattle.octets.proofs.Settles.{Settled, ◌and◌, ◌also◌, settled}
 use Rattle.answers.proofs as answers
 
-pub values-unique : Settled answers.number.Reads.Post and Settled answers.place.Reads.Post and Settled answers.is_done.Reads.Post and Settled answers.first_of.Reads.Post
+pub values-unique : Settled answers.Refusal.number.Reads.Post and Settled answers.Refusal.place.Reads.Post and Settled answers.number.Reads.Post and Settled answers.place.Reads.Post
 values-unique = (λ κs a. settled) also (λ κs a. settled) also (λ κs a. settled) also (λ κs a. settled)

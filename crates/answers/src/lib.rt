@@ -3,12 +3,12 @@
 
 ghost use Rattle.std.specs.Prelude.{◌≡◌};
 ghost use Rattle.octets.specs.Choice.{◌⇒◌⨾◌};
-ghost use Rattle.answers.specs.Answer.{answer_number, answer_place, is_done};
+ghost use Rattle.answers.specs.Answer.{refusal_number, refusal_place, answer_number, answer_place, is_done};
 
-// In the paper's order of checking; the last three are a release's, a writer's, and the only one that changes anything. A bad field comes with
-// the offset of its first bad byte.
-#[derive(Clone, Copy)]
-pub enum Answer {
+// Why a call has changed nothing, in the paper's order of checking; the last two are a release's and a writer's. A bad field comes with the offset
+// of its first bad byte.
+#[derive(Clone, Copy, PartialEq, Eq)]
+pub enum Refusal {
     NotSound,
     WrongRing,
     WrongStocks,
@@ -24,7 +24,44 @@ pub enum Answer {
     Blocked,
     NotHeld,
     NoRoom,
-    Done,
+}
+
+// Done, or refused. Only a call that is done has changed anything, and only an entry that comes to it goes on.
+pub type Answer = Result<(), Refusal>;
+
+impl Refusal {
+    // The paper's number of a refusal.
+    pub fn number(self) -> u8
+        ensures { result ≡ refusal_number self }
+    {
+        match self {
+            Refusal::NotSound => 10,
+            Refusal::WrongRing => 11,
+            Refusal::WrongStocks => 14,
+            Refusal::Malformed => 2,
+            Refusal::BadField(_) => 3,
+            Refusal::TooEarly => 4,
+            Refusal::UnlistedFirm => 15,
+            Refusal::Ignored => 1,
+            Refusal::NotLive => 5,
+            Refusal::WrongMoment => 7,
+            Refusal::WrongShares => 6,
+            Refusal::Full => 8,
+            Refusal::Blocked => 9,
+            Refusal::NotHeld => 12,
+            Refusal::NoRoom => 13,
+        }
+    }
+
+    // The place that it tells; 0 where it tells none.
+    pub fn place(self) -> usize
+        ensures { result ≡ refusal_place self }
+    {
+        match self {
+            Refusal::BadField(at) => at,
+            _ => 0,
+        }
+    }
 }
 
 // The paper's number of an answer.
@@ -32,22 +69,8 @@ pub fn number(answer: Answer) -> u8
     ensures { result ≡ answer_number answer }
 {
     match answer {
-        Answer::NotSound => 10,
-        Answer::WrongRing => 11,
-        Answer::WrongStocks => 14,
-        Answer::Malformed => 2,
-        Answer::BadField(_) => 3,
-        Answer::TooEarly => 4,
-        Answer::UnlistedFirm => 15,
-        Answer::Ignored => 1,
-        Answer::NotLive => 5,
-        Answer::WrongMoment => 7,
-        Answer::WrongShares => 6,
-        Answer::Full => 8,
-        Answer::Blocked => 9,
-        Answer::NotHeld => 12,
-        Answer::NoRoom => 13,
-        Answer::Done => 0,
+        Ok(()) => 0,
+        Err(refusal) => refusal.number(),
     }
 }
 
@@ -56,22 +79,8 @@ pub fn place(answer: Answer) -> usize
     ensures { result ≡ answer_place answer }
 {
     match answer {
-        Answer::NotSound => 0,
-        Answer::WrongRing => 0,
-        Answer::WrongStocks => 0,
-        Answer::Malformed => 0,
-        Answer::BadField(at) => at,
-        Answer::TooEarly => 0,
-        Answer::UnlistedFirm => 0,
-        Answer::Ignored => 0,
-        Answer::NotLive => 0,
-        Answer::WrongMoment => 0,
-        Answer::WrongShares => 0,
-        Answer::Full => 0,
-        Answer::Blocked => 0,
-        Answer::NotHeld => 0,
-        Answer::NoRoom => 0,
-        Answer::Done => 0,
+        Ok(()) => 0,
+        Err(refusal) => refusal.place(),
     }
 }
 
@@ -79,7 +88,10 @@ pub fn place(answer: Answer) -> usize
 pub fn is_done(answer: Answer) -> bool
     ensures { result ≡ is_done answer }
 {
-    number(answer) == 0
+    match answer {
+        Ok(()) => true,
+        Err(_) => false,
+    }
 }
 
 // The paper's 'first that applies', one question at a time: this answer where the test holds, and else what the later questions answer.

@@ -1,7 +1,7 @@
 // What the status call says of all orders, where a script asks it.
 use crate::run::Run;
 use crate::text::{put, put_number};
-use answers::{is_done, number};
+use answers::{number, is_done};
 use table::status::{Tally, status};
 
 fn both_numbers(tally: Tally, out: &mut [u8], from: usize) -> usize {

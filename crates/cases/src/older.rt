@@ -1,7 +1,7 @@
 // The table of two records in its old form, without bits, and what the converter makes of it.
 use crate::run::Last;
 use crate::text::{part, put, same};
-use answers::{Answer, is_done, number, place};
+use answers::{Answer, Refusal, number, place, is_done};
 use convert::convert;
 
 // How long it is: the bits stood behind it.
@@ -19,7 +19,7 @@ pub(crate) fn take_back(table: &mut [u8]) {
 // The converter is lent so many bytes of the second buffer.
 fn rebuilt(old: &[u8], second: &mut [u8], n: usize) -> Answer {
     if second.len() < n {
-        return Answer::NoRoom;
+        return Err(Refusal::NoRoom);
     }
     convert(old, &mut second[0..n])
 }

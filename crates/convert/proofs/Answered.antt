@@ -3,7 +3,7 @@ use Rattle.octets.proofs.Proving.{Bool, List, ◌+◌, ◌≡◌, ◌≢◌, ◌
 use Rattle.octets.specs.Choice.{pick, first_of◌, ◌⇒◌⨾◌}
 use Rattle.bitrow.specs.Row.{bytes_for}
 use Rattle.answers.specs.Answer.{is_done, if_done}
-use Rattle.answers.specs.declared.Answer.TheVariants.{Done, NotSound, NoRoom}
+use Rattle.answers.specs.Answer.{Done, NotSound, NoRoom}
 use Rattle.answers.proofs.Laws.{is-done}
 use Rattle.header.specs.Limits.{header_size}
 use Rattle.table.specs.Table.{table_size}

@@ -2,7 +2,7 @@
 use Rattle.octets.proofs.Proving.{List, ℕ}
 use contract.Lifetimes.{Lfts}
 use Rattle.octets.proofs.Settles.{Settles, Settled, settled, one-pair}
-use Rattle.answers.specs.declared.Answer.{Answer}
+use Rattle.answers.specs.Answer.{Answer}
 use Rattle.convert.proofs as convert
 
 pub old-unique : Settled convert.old.old_sound.Reads.Post

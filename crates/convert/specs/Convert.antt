@@ -4,8 +4,8 @@ use Rattle.octets.specs.Choice.{first_of◌, ◌⇒◌⨾◌}
 use Rattle.octets.specs.Bytes.{zeros}
 use Rattle.bitrow.specs.Row.{bytes_for}
 use Rattle.answers.specs.Answer.{if_done}
-use Rattle.answers.specs.declared.Answer.{Answer}
-use Rattle.answers.specs.declared.Answer.TheVariants.{Done, NotSound, NoRoom}
+use Rattle.answers.specs.Answer.{Answer}
+use Rattle.answers.specs.Answer.{Done, NotSound, NoRoom}
 use Rattle.header.specs.Limits.{header_size}
 use Rattle.table.specs.Table.{table_size, order_at, store_order}
 use Rattle.convert.specs.Old.{old_records, old_used, renewed, old_sound}

@@ -1,7 +1,7 @@
 -- What is promised of a table that was converted (Ask 6): it is sound, it means the same, and every byte of it is said.
 use Rattle.std.specs.Prelude.{ℕ, ◌*◌, ◌<◌, ◌≡◌, true, ◌&&◌, List, ◌≢◌, length, take, drop, ltb}
 use Rattle.octets.specs.Bytes.{part}
-use Rattle.answers.specs.declared.Answer.TheVariants.{Done}
+use Rattle.answers.specs.Answer.{Done}
 use Rattle.wire.specs.Legal.{Bytes}
 use Rattle.header.specs.Limits.{header_size, sum_place}
 use Rattle.orders.specs.Limits.{record_size}

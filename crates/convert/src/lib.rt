@@ -11,7 +11,7 @@ ghost use Rattle.convert.specs.Old.{old_records};
 ghost use Rattle.convert.specs.Convert.{convert_answer, carried, with_orders, converted};
 
 use crate::old::{old_records, old_sound, old_used, renewed};
-use answers::{Answer, first_of, is_done};
+use answers::{Answer, Refusal, is_done, first_of};
 use header::{HEADER_SIZE, SUM_PLACE};
 use octets::{put_bytes, put_number};
 use orders::record::order_of;
@@ -26,11 +26,11 @@ fn convert_answer(old: &[u8], m: usize) -> Answer
     if old_sound(old) {
         return first_of(
             m != table_size(old_records(old)),
-            Answer::NoRoom,
-            Answer::Done,
+            Err(Refusal::NoRoom),
+            Ok(()),
         );
     }
-    Answer::NotSound
+    Err(Refusal::NotSound)
 }
 
 // Every byte of the second buffer is written, one run behind the other, so that nothing is left of what it held.

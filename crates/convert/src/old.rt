@@ -9,7 +9,7 @@ ghost use Rattle.convert.specs.Old.{old_records, old_size_good, old_used, renewe
 
 use header::sound::header_sound;
 use header::{HEADER_SIZE, SUM_PLACE, TABLE_FORM};
-use octets::{are_zero, byte_at, least};
+use octets::{are_zero, byte_at};
 use orders::record::RECORD_SIZE;
 use table::sound::{FEWEST_RECORDS, MOST_RECORDS};
 use table::walk::walk;
@@ -34,10 +34,7 @@ pub(crate) fn old_used(old: &[u8]) -> usize
     if old.len() < HEADER_SIZE {
         return 0;
     }
-    least(
-        octets::be32(&old[0..SUM_PLACE], 4) as usize,
-        old_records(old),
-    )
+    (octets::be32(&old[0..SUM_PLACE], 4) as usize).min(old_records(old))
 }
 
 // 1 to 800 records, and nothing behind them.

@@ -16,7 +16,7 @@ use Rattle.stocks.specs.Stocks.{list_good}
 use Rattle.laws.proofs.Sounds.{keeps}
 use Rattle.laws.proofs.Halted.{stays-good}
 use Rattle.laws.proofs.Comes.{unblocked}
-use Rattle.answers.specs.declared.Answer.{Answer}
+use Rattle.answers.specs.Answer.{Answer}
 use Rattle.rules.specs.declared.plan.Decision.{Decision}
 use Rattle.rules.specs.declared.plan.Plan.{Plan}
 use Rattle.host.specs.Step.{World, Outcome, named_place, comes_to, no_room, step, books_after, world_after}

@@ -2,7 +2,7 @@
 -- nothing.
 use Rattle.octets.proofs.Proving.{List, [], ◌++◌, ◌∙◌, ◌≡◌, ◌≤◌, ap, false, length, true, ℕ}
 use Rattle.octets.specs.Bytes.{joined}
-use Rattle.answers.specs.declared.Answer.TheVariants.{Done}
+use Rattle.answers.specs.Answer.{Done}
 use Rattle.header.specs.Whole.{WholeSettings}
 use Rattle.header.specs.declared.settings.Settings.{Settings}
 use Rattle.orders.specs.Limits.{most_shares}

@@ -9,7 +9,7 @@ use Rattle.outbox.specs.Outbox.{free_bytes, marks_without}
 use Rattle.outbox.proofs.Right.{right}
 use Rattle.outbox.proofs.Board.{held-is-enough, release-keeps-good}
 use Rattle.outbox.proofs.Guards.{release-marks-done}
-use Rattle.answers.specs.declared.Answer.TheVariants.{Blocked}
+use Rattle.answers.specs.Answer.{Blocked}
 use Rattle.outbox.specs.declared.marks.Marks.{Marks}
 use Rattle.host.specs.Step.{World, Outcome, named_place, no_room, step, books_after, world_after}
 use Rattle.table.proofs.Soundness.{of-sound}

@@ -2,8 +2,8 @@
 use Rattle.octets.proofs.Proving.{List, [], ◌<◌, ◌∙◌, ◌∷◌, ◌≡◌, ap, arith, refl, suc, sym, true, zero, ℕ}
 use Rattle.octets.proofs.Counted.{count_none}
 use Rattle.answers.specs.Answer.{is_done}
-use Rattle.answers.specs.declared.Answer.{Answer}
-use Rattle.answers.specs.declared.Answer.TheVariants.{Done}
+use Rattle.answers.specs.Answer.{Answer}
+use Rattle.answers.specs.Answer.{Done}
 use Rattle.header.specs.Firms.{is_listed}
 use Rattle.header.specs.declared.Header.{Header}
 use Rattle.orders.specs.Wanted.{is_wanted}

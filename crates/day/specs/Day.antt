@@ -8,7 +8,7 @@ use Rattle.notices.specs.Notices.{message}
 use Rattle.tape.specs.Entries.{stamp_of}
 use Rattle.host.specs.Step.{Books, World, Outcome, named_place, books_after, step, comes_to}
 use Rattle.laws.specs.Blocked.{is_blocked}
-use Rattle.answers.specs.declared.Answer.{Answer}
+use Rattle.answers.specs.Answer.{Answer}
 use Rattle.rules.specs.declared.plan.Decision.{Decision}
 use Rattle.rules.specs.declared.plan.Plan.{Plan}
 use Rattle.outbox.specs.declared.marks.Marks.{Marks}

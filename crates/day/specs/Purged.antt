@@ -1,7 +1,7 @@
 -- A w that is offered until it is ignored (Ask 5): of any sound table, with unlimited room, and through any outbox that holds nothing.
 use Rattle.std.specs.Prelude.{ℕ, zero, suc, ◌≤◌, ◌<◌, ◌≡◌, true, false, List, [], ◌∷◌}
-use Rattle.answers.specs.declared.Answer.{Answer}
-use Rattle.answers.specs.declared.Answer.TheVariants.{Done, Ignored}
+use Rattle.answers.specs.Answer.{Answer}
+use Rattle.answers.specs.Answer.{Done, Ignored}
 use Rattle.header.specs.Firms.{is_listed}
 use Rattle.orders.specs.Wanted.{is_wanted}
 use Rattle.table.specs.Table.{header, order_at, sound}

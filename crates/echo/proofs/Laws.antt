@@ -2,8 +2,8 @@
 use Rattle.octets.proofs.Proving.{Bool, List, List·get_d-eq-default, Option, [], ◌∙◌, ◌∷◌, ◌≡◌, ap, arith, eqb, false, get_or, length, ne_eqb, none, some, sym, true, ℕ}
 use Rattle.octets.specs.Choice.{pick}
 use Rattle.answers.specs.Answer.{is_done, if_done}
-use Rattle.answers.specs.declared.Answer.{Answer}
-use Rattle.answers.specs.declared.Answer.TheVariants.{Malformed}
+use Rattle.answers.specs.Answer.{Answer}
+use Rattle.answers.specs.Answer.{Malformed}
 use Rattle.answers.proofs.Laws.{is-done}
 use Rattle.wire.specs.Layout.{Layout, Values, layout_for}
 use Rattle.wire.specs.Legal.{Bytes}

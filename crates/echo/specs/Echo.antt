@@ -4,8 +4,8 @@ use Rattle.std.specs.Prelude.{ℕ, Bool, List, get_or}
 use Rattle.std.proofs.Math.Option.{Option, none, some}
 use Rattle.octets.specs.Choice.{pick}
 use Rattle.answers.specs.Answer.{if_done}
-use Rattle.answers.specs.declared.Answer.{Answer}
-use Rattle.answers.specs.declared.Answer.TheVariants.{Malformed}
+use Rattle.answers.specs.Answer.{Answer}
+use Rattle.answers.specs.Answer.{Malformed}
 use Rattle.wire.specs.Layout.{Layout, layout_for}
 use Rattle.wire.specs.Messages.{inbound, outbound, read_answer, write_answer, buffer_after}
 

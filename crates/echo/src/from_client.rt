@@ -3,7 +3,7 @@ ghost use Rattle.std.specs.Prelude.{◌≡◌};
 ghost use Rattle.wire.specs.Messages.{enter_order, replace_order, cancel_order, modify_order, inbound};
 ghost use Rattle.echo.specs.Echo.{echo_answer, echoed, answer_among, echoed_among};
 
-use answers::{Answer, is_done};
+use answers::{Answer, Refusal, is_done};
 use inbound::cancel_order::{read_cancel_order, write_cancel_order};
 use inbound::enter_order::{read_enter_order, write_enter_order};
 use inbound::modify_order::{read_modify_order, write_modify_order};
@@ -14,14 +14,14 @@ pub(crate) fn echo_inbound(s: &[u8], out: &mut [u8]) -> Answer
     ensures { (result ≡ answer_among inbound s.now out.old) × (out.new ≡ echoed_among inbound s.now out.old) }
 {
     if s.len() == 0 {
-        return Answer::Malformed;
+        return Err(Refusal::Malformed);
     }
     match s[0] {
         b'O' => echo_enter_order(s, out),
         b'U' => echo_replace_order(s, out),
         b'X' => echo_cancel_order(s, out),
         b'M' => echo_modify_order(s, out),
-        _ => Answer::Malformed,
+        _ => Err(Refusal::Malformed),
     }
 }
 

@@ -3,7 +3,7 @@ ghost use Rattle.std.specs.Prelude.{◌≡◌};
 ghost use Rattle.wire.specs.Messages.{system_event, accepted, replaced, canceled, aiq_cancelled, executed, broken_trade, rejected, cancel_pending, cancel_reject, priority_update, modified, outbound};
 ghost use Rattle.echo.specs.Echo.{echo_answer, echoed, answer_among, echoed_among};
 
-use answers::{Answer, is_done};
+use answers::{Answer, Refusal, is_done};
 use outbound::accepted::{read_accepted, write_accepted};
 use outbound::aiq_cancelled::{read_aiq_cancelled, write_aiq_cancelled};
 use outbound::broken_trade::{read_broken_trade, write_broken_trade};
@@ -22,7 +22,7 @@ pub(crate) fn echo_outbound(s: &[u8], out: &mut [u8]) -> Answer
     ensures { (result ≡ answer_among outbound s.now out.old) × (out.new ≡ echoed_among outbound s.now out.old) }
 {
     if s.len() == 0 {
-        return Answer::Malformed;
+        return Err(Refusal::Malformed);
     }
     match s[0] {
         b'S' => echo_system_event(s, out),
@@ -37,7 +37,7 @@ pub(crate) fn echo_outbound(s: &[u8], out: &mut [u8]) -> Answer
         b'I' => echo_cancel_reject(s, out),
         b'T' => echo_priority_update(s, out),
         b'M' => echo_modified(s, out),
-        _ => Answer::Malformed,
+        _ => Err(Refusal::Malformed),
     }
 }
 

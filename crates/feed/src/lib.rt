@@ -52,7 +52,7 @@ pub fn piece(buffer: &[u8], feed: Feed) -> &[u8]
     ensures { result.now ≡ piece_of buffer.now feed }
 {
     let bytes = unread(buffer, held_by(feed));
-    let n = octets::least(feed.len, bytes.len());
+    let n = feed.len.min(bytes.len());
     &bytes[..n]
 }
 

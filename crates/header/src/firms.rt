@@ -5,7 +5,6 @@ ghost use Rattle.header.specs.Firms.{firm_at, is_blank, meant_firm, is_listed, f
 
 use crate::Header;
 use octets::bits::{bit_of, with_bit};
-use octets::least;
 use wire::text::is_shaped;
 
 pub const MOST_FIRMS: usize = 8;
@@ -18,7 +17,7 @@ pub fn firm_at(firms: [u8; 32], k: usize) -> [u8; 4]
     ensures { result ≡ firm_at firms k }
 {
     if k < MOST_FIRMS {
-        return octets::bytes4_at(&firms, FIRM_SIZE * k);
+        return octets::bytes_at(&firms, FIRM_SIZE * k);
     }
     [0u8; 4]
 }
@@ -83,7 +82,7 @@ pub fn firm_blocked(h: Header, firm: [u8; 4]) -> bool
 pub fn blocked_with(h: Header, place: usize, on: bool) -> u8
     ensures { result ≡ blocked_with h place on }
 {
-    if place < least(h.count as usize, MOST_FIRMS) {
+    if place < (h.count as usize).min(MOST_FIRMS) {
         return with_bit(h.blocked, place, on);
     }
     h.blocked

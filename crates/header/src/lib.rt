@@ -58,7 +58,7 @@ pub fn header_of(s: &[u8]) -> Header
     ensures { result ≡ header_of s.now }
 {
     let threshold = Total(octets::be32(s, 24));
-    let firms = octets::bytes32_at(s, 28);
+    let firms = octets::bytes_at(s, 28);
     Header {
         day: octets::byte_at(s, 0),
         count: octets::byte_at(s, 1),
@@ -91,7 +91,7 @@ fn put_standing(s: &mut [u8], h: Header)
     let firms = h.firms;
     octets::put_be64(s, 16, h.reference);
     octets::put_be32(s, 24, h.threshold.0);
-    octets::put_bytes32(s, 28, firms);
+    octets::put_array(s, 28, firms);
 }
 
 // The bytes of the header's value, over what is there.

@@ -6,7 +6,6 @@ ghost use Rattle.header.specs.Settings.{settings_good, listed_firms, fresh_heade
 
 use crate::firms::{FIRM_SIZE, MOST_FIRMS, firms_shaped};
 use crate::{BEFORE, FIRST_REFERENCE, Header};
-use octets::least;
 use wire::shares::Total;
 
 pub const LOWEST_THRESHOLD: u32 = 1;
@@ -31,7 +30,7 @@ fn listed_firms(firms: [Firm; 8], count: usize) -> [u8; 32]
     ensures { result ≡ listed_firms firms count }
 {
     let mut row = [0u8; 32];
-    let listed = least(count, MOST_FIRMS);
+    let listed = count.min(MOST_FIRMS);
     let mut k: usize = 0;
     while k < listed {
         let firm = firms[k];
@@ -47,7 +46,7 @@ fn put_code(row: &mut [u8], k: usize, firm: Firm)
     ensures { (row.new ≡ put row.old (firm_size * k) firm.code) × (length firm.code ≡ firm_size) }
 {
     let code = firm.code;
-    octets::put_bytes4(row, FIRM_SIZE * k, code);
+    octets::put_array(row, FIRM_SIZE * k, code);
 }
 
 pub fn settings_good(settings: Settings) -> bool

@@ -1,6 +1,6 @@
 -- The values that a step speaks of, under their names.
-pub use Rattle.answers.specs.declared.Answer.{Answer}
-pub use Rattle.answers.specs.declared.Answer.TheVariants.{BadField, Blocked, Done, Full, Ignored, Malformed, NoRoom, NotHeld, NotLive, NotSound, TooEarly, UnlistedFirm, WrongMoment, WrongRing, WrongShares, WrongStocks}
+pub use Rattle.answers.specs.Answer.{Answer}
+pub use Rattle.answers.specs.Answer.{BadField, Blocked, Done, Full, Ignored, Malformed, NoRoom, NotHeld, NotLive, NotSound, TooEarly, UnlistedFirm, WrongMoment, WrongRing, WrongShares, WrongStocks}
 pub use Rattle.outbox.specs.declared.marks.Marks.{Marks}
 pub use Rattle.header.specs.declared.Header.{Header}
 pub use Rattle.orders.specs.declared.order.Order.{Order}

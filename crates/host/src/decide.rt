@@ -9,7 +9,7 @@ ghost use Rattle.rules.specs.Replace.{replace_rule};
 ghost use Rattle.market.specs.Halt.{halt_rule};
 ghost use Rattle.host.specs.Step.{books, named_place, decide_by, decide, within_limits};
 
-use answers::{Answer, is_done};
+use answers::{Refusal, is_done};
 use header::{END_OF_REFERENCES, Header};
 use market::cross::{cross_done, late};
 use market::day::system;
@@ -69,7 +69,7 @@ fn decide(table: &[u8], stocks: &[u8], entry: &[u8], h: Header, named: Order) ->
         Kind::Purges => purge(h, named, purge_of(entry)),
         Kind::Disables => block(h, blocking_of(entry), true),
         Kind::Enables => block(h, blocking_of(entry), false),
-        Kind::Unknown => refused(Answer::Malformed),
+        Kind::Unknown => refused(Err(Refusal::Malformed)),
     }
 }
 
@@ -113,7 +113,7 @@ fn within_limits(table: &[u8], h: Header, d: Decision) -> Decision
     let no_record = is_used(added) & (records_in(table) <= h.used as usize);
     let no_reference = d.plan.numbered & (h.reference == END_OF_REFERENCES);
     if is_done(answer) & (no_record | no_reference) {
-        return refused(Answer::Full);
+        return refused(Err(Refusal::Full));
     }
     d
 }

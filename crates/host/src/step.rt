@@ -1,6 +1,6 @@
 // One step: judge, read, decide, ask for room, write. Nothing is written before the last question is answered, so a refusal changes nothing.
 ghost use Rattle.std.specs.Prelude.{◌≡◌, true, ◌≤◌, length, take};
-ghost use Rattle.answers.specs.declared.Answer.TheVariants.{Done};
+ghost use Rattle.answers.specs.Answer.{Done};
 ghost use Rattle.header.specs.Limits.{end_of_references};
 ghost use Rattle.outbox.specs.Outbox.{ring_good, free_bytes, ring_with, marks_with};
 ghost use Rattle.stocks.specs.Stocks.{list_good};
@@ -11,7 +11,7 @@ ghost use Rattle.host.specs.Step.{step, offer, settle, carried_out, named_place,
 
 use crate::commit::{commit, set_if};
 use crate::decide::comes_to;
-use answers::{Answer, is_done};
+use answers::{Answer, Refusal, is_done};
 use header::Header;
 use notices::message;
 use outbox::marks::{Marks, ring_good};
@@ -49,17 +49,17 @@ pub fn step(
                 return offer(table, ring, marks, stocks, entry);
             }
             return Stepped {
-                answer: Answer::WrongStocks,
+                answer: Err(Refusal::WrongStocks),
                 marks,
             };
         }
         return Stepped {
-            answer: Answer::WrongRing,
+            answer: Err(Refusal::WrongRing),
             marks,
         };
     }
     Stepped {
-        answer: Answer::NotSound,
+        answer: Err(Refusal::NotSound),
         marks,
     }
 }
@@ -94,7 +94,7 @@ fn take(table: &mut [u8], ring: &mut [u8], marks: Marks, stocks: &mut [u8], entr
     let stamp = stamp_of(entry);
     if stamp < h.last {
         return Stepped {
-            answer: Answer::TooEarly,
+            answer: Err(Refusal::TooEarly),
             marks,
         };
     }
@@ -158,7 +158,7 @@ fn carry_out(
     let len = sent.len;
     if ring.len() - marks.held < len {
         return Stepped {
-            answer: Answer::Blocked,
+            answer: Err(Refusal::Blocked),
             marks,
         };
     }
@@ -167,7 +167,7 @@ fn carry_out(
     set_if(stocks, stock);
     let after = append_front(ring, marks, &bytes, len);
     Stepped {
-        answer: Answer::Done,
+        answer: Ok(()),
         marks: after,
     }
 }

@@ -27,7 +27,7 @@ pub fn parse_cancel_order(s: &[u8]) -> CancelOrder
     ensures { result ≡ cancel_order_of s.now }
 {
     CancelOrder {
-        token: octets::bytes14_at(s, 1),
+        token: octets::bytes_at(s, 1),
         size: Total(octets::be32(s, 15)),
     }
 }

@@ -37,13 +37,13 @@ pub fn parse_enter_order(s: &[u8]) -> EnterOrder
     ensures { result ≡ enter_order_of s.now }
 {
     EnterOrder {
-        token: octets::bytes14_at(s, 1),
+        token: octets::bytes_at(s, 1),
         side: octets::byte_at(s, 15),
         shares: Total(octets::be32(s, 16)),
-        stock: octets::bytes8_at(s, 20),
+        stock: octets::bytes_at(s, 20),
         price: octets::be32(s, 28),
         time: octets::be32(s, 32),
-        firm: octets::bytes4_at(s, 36),
+        firm: octets::bytes_at(s, 36),
         display: octets::byte_at(s, 40),
         capacity: octets::byte_at(s, 41),
         sweep: octets::byte_at(s, 42),

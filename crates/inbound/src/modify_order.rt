@@ -28,7 +28,7 @@ pub fn parse_modify_order(s: &[u8]) -> ModifyOrder
     ensures { result ≡ modify_order_of s.now }
 {
     ModifyOrder {
-        token: octets::bytes14_at(s, 1),
+        token: octets::bytes_at(s, 1),
         side: octets::byte_at(s, 15),
         shares: Total(octets::be32(s, 16)),
     }

@@ -33,8 +33,8 @@ pub fn parse_replace_order(s: &[u8]) -> ReplaceOrder
     ensures { result ≡ replace_order_of s.now }
 {
     ReplaceOrder {
-        existing: octets::bytes14_at(s, 1),
-        replacement: octets::bytes14_at(s, 15),
+        existing: octets::bytes_at(s, 1),
+        replacement: octets::bytes_at(s, 15),
         shares: Total(octets::be32(s, 29)),
         price: octets::be32(s, 33),
         time: octets::be32(s, 37),

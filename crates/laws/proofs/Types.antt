@@ -1,6 +1,6 @@
 -- The values that the laws speak of, under their names. Assumes nothing.
-pub use Rattle.answers.specs.declared.Answer.{Answer}
-pub use Rattle.answers.specs.declared.Answer.TheVariants.{BadField, Blocked, Done, Full, Ignored, Malformed, NotSound, NotLive, TooEarly, UnlistedFirm, WrongMoment, WrongRing, WrongStocks}
+pub use Rattle.answers.specs.Answer.{Answer}
+pub use Rattle.answers.specs.Answer.{BadField, Blocked, Done, Full, Ignored, Malformed, NotSound, NotLive, TooEarly, UnlistedFirm, WrongMoment, WrongRing, WrongStocks}
 pub use Rattle.wire.specs.declared.shares.Total.{Total}
 pub use Rattle.inbound.specs.declared.enter_order.EnterOrder.{EnterOrder}
 pub use Rattle.inbound.specs.declared.replace_order.ReplaceOrder.{ReplaceOrder}

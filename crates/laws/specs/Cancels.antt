@@ -1,6 +1,6 @@
 -- What a Cancel does to the orders (Ask 4): of any table, ring, marks, list and entry.
 use Rattle.std.specs.Prelude.{ℕ, ◌≤◌, ◌<◌, ◌≡◌, true, false, List}
-use Rattle.answers.specs.declared.Answer.TheVariants.{Done, Ignored}
+use Rattle.answers.specs.Answer.{Done, Ignored}
 use Rattle.wire.specs.Shares.{◌grown_by◌}
 use Rattle.wire.specs.declared.shares.Total.{Total}
 use Rattle.orders.specs.Counts.{open_shares}

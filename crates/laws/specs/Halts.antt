@@ -1,6 +1,6 @@
 -- What a step does to the list of stocks (Ask 2): of any table, ring, marks, list and entry.
 use Rattle.std.specs.Prelude.{ℕ, ◌≡◌, true, List, [], ◌≢◌, get_or}
-use Rattle.answers.specs.declared.Answer.TheVariants.{Done}
+use Rattle.answers.specs.Answer.{Done}
 use Rattle.stocks.specs.Standing.{is_listed}
 use Rattle.stocks.specs.Stocks.{list_good, place_of, state_place, standing_in, with_state}
 use Rattle.tape.specs.Kinds.{kind_of}

@@ -1,6 +1,6 @@
 -- What goes out for an entry: nothing, or one message (Messages and entries; Answer numbers, in order of checking, last sentence).
 use Rattle.std.specs.Prelude.{ℕ, ◌≤◌, ◌<◌, ◌≡◌, List, [], length}
-use Rattle.answers.specs.declared.Answer.TheVariants.{Done}
+use Rattle.answers.specs.Answer.{Done}
 use Rattle.wire.specs.Messages.{message_layout, read_answer}
 use Rattle.outbox.specs.Limits.{shortest_ring}
 

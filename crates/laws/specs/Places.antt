@@ -1,6 +1,6 @@
 -- The place that a step tells (Ask 1): with 3 the smallest offset of a bad byte of the entry, and 0 with every other answer.
 use Rattle.std.specs.Prelude.{ℕ, ◌≡◌, true, List}
-use Rattle.answers.specs.declared.Answer.TheVariants.{BadField}
+use Rattle.answers.specs.Answer.{BadField}
 use Rattle.wire.specs.Legal.{FirstBad, ◌exactly_when◌, PlaceWith3}
 use Rattle.tape.specs.Kinds.{kind_of, layout_of}
 use Rattle.tape.specs.Entries.{well_formed}

@@ -2,7 +2,7 @@
 use Rattle.std.specs.Prelude.{ℕ, suc, ◌<◌, ◌≡◌, Bool, true, List, [], ◌⊎◌, ◌≢◌}
 use Rattle.octets.specs.Choice.{count_below}
 use Rattle.octets.specs.Bits.{bit_of}
-use Rattle.answers.specs.declared.Answer.TheVariants.{Done, Ignored, UnlistedFirm, Blocked}
+use Rattle.answers.specs.Answer.{Done, Ignored, UnlistedFirm, Blocked}
 use Rattle.header.specs.Firms.{is_blank, is_listed, firm_place}
 use Rattle.header.specs.declared.Header.{Header}
 use Rattle.orders.specs.Wanted.{is_wanted}

@@ -1,6 +1,6 @@
 -- The values that these rules speak of, under their names.
-pub use Rattle.answers.specs.declared.Answer.{Answer}
-pub use Rattle.answers.specs.declared.Answer.TheVariants.{Done, NotLive, WrongMoment, WrongShares}
+pub use Rattle.answers.specs.Answer.{Answer}
+pub use Rattle.answers.specs.Answer.{Done, NotLive, WrongMoment, WrongShares}
 pub use Rattle.wire.specs.declared.shares.Removed.{Removed}
 pub use Rattle.tape.specs.declared.entry.Execution.{Execution}
 pub use Rattle.tape.specs.declared.entry.BookCancel.{BookCancel}

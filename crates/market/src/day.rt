@@ -2,7 +2,7 @@
 ghost use Rattle.std.specs.Prelude.{◌≡◌};
 ghost use Rattle.market.specs.Day.{system_rule};
 
-use answers::Answer;
+use answers::Refusal;
 use header::{BEFORE, CLOSED, Header, OPEN};
 use rules::plan::{Decision, beginning, refused};
 use tape::entry::System;
@@ -16,5 +16,5 @@ pub fn system(h: Header, e: System) -> Decision
     if (e.event == b'E') & (h.day == OPEN) {
         return beginning(CLOSED, e.event);
     }
-    refused(Answer::WrongMoment)
+    refused(Err(Refusal::WrongMoment))
 }

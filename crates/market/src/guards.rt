@@ -2,7 +2,7 @@
 ghost use Rattle.std.specs.Prelude.{◌≡◌};
 ghost use Rattle.market.specs.Guards.{market_answer};
 
-use answers::{Answer, first_of};
+use answers::{Answer, Refusal, first_of};
 use orders::order::{Order, is_live};
 
 // Whether the moment and the shares are right is what the kinds differ in.
@@ -11,11 +11,11 @@ pub(crate) fn market_answer(o: Order, moment: bool, shares: bool) -> Answer
 {
     first_of(
         !is_live(o),
-        Answer::NotLive,
+        Err(Refusal::NotLive),
         first_of(
             !moment,
-            Answer::WrongMoment,
-            first_of(!shares, Answer::WrongShares, Answer::Done),
+            Err(Refusal::WrongMoment),
+            first_of(!shares, Err(Refusal::WrongShares), Ok(())),
         ),
     )
 }

@@ -2,7 +2,7 @@
 ghost use Rattle.std.specs.Prelude.{◌≡◌};
 ghost use Rattle.market.specs.Halt.{halt_rule};
 
-use answers::Answer;
+use answers::Refusal;
 use rules::plan::{Decision, refused, setting};
 use stocks::standing::{Standing, is_listed};
 use tape::entry::StockState;
@@ -14,5 +14,5 @@ pub fn halt(standing: Standing, e: StockState) -> Decision
     if is_listed(standing) {
         return setting(e);
     }
-    refused(Answer::NotLive)
+    refused(Err(Refusal::NotLive))
 }

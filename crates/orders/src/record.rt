@@ -7,10 +7,7 @@ ghost use Rattle.orders.specs.Runs.{opening, traded, letters, ending};
 
 use crate::counts::Counts;
 use crate::order::{Details, Kept, Order, Terms};
-use octets::{
-    be32, be64, byte_at, bytes4_at, bytes8_at, bytes14_at, put_be32, put_be64, put_byte,
-    put_bytes4, put_bytes8, put_bytes14,
-};
+use octets::{be32, be64, byte_at, bytes_at, put_array, put_be32, put_be64, put_byte};
 use wire::shares::{Removed, Total};
 
 // How many bytes a record has.
@@ -34,8 +31,8 @@ fn kept_of(s: &[u8]) -> Kept
     requires { length s.now ≡ record_size }
     ensures { result ≡ (order_of s.now).details.kept }
 {
-    let stock = bytes8_at(s, 28);
-    let firm = bytes4_at(s, 44);
+    let stock = bytes_at(s, 28);
+    let firm = bytes_at(s, 44);
     Kept {
         stock,
         firm,
@@ -63,7 +60,7 @@ fn details_of(s: &[u8]) -> Details
 {
     let kept = kept_of(s);
     let terms = terms_of(s);
-    let previous = bytes14_at(s, 65);
+    let previous = bytes_at(s, 65);
     Details {
         kept,
         terms,
@@ -77,7 +74,7 @@ pub fn order_of(s: &[u8]) -> Order
     requires { length s.now ≡ record_size }
     ensures { result ≡ order_of s.now }
 {
-    let token = bytes14_at(s, 1);
+    let token = bytes_at(s, 1);
     let shares = counts_of(s);
     let details = details_of(s);
     Order {
@@ -98,7 +95,7 @@ fn put_opening(s: &mut [u8], o: Order)
     let token = o.token;
     let shares = o.shares;
     put_byte(s, 0, o.state);
-    put_bytes14(s, 1, token);
+    put_array(s, 1, token);
     put_byte(s, 15, o.side);
     put_be32(s, 16, shares.liable.0);
     put_be32(s, 20, shares.executed.0);
@@ -111,10 +108,10 @@ fn put_traded(s: &mut [u8], details: Details)
 {
     let stock = details.kept.stock;
     let firm = details.kept.firm;
-    put_bytes8(s, 28, stock);
+    put_array(s, 28, stock);
     put_be32(s, 36, details.terms.price);
     put_be32(s, 40, details.terms.time);
-    put_bytes4(s, 44, firm);
+    put_array(s, 44, firm);
 }
 
 fn put_letters(s: &mut [u8], details: Details)
@@ -135,7 +132,7 @@ fn put_ending(s: &mut [u8], flags: u8, details: Details)
     let previous = details.previous;
     put_be64(s, 56, details.reference);
     put_byte(s, 64, flags);
-    put_bytes14(s, 65, previous);
+    put_array(s, 65, previous);
     put_byte(s, 79, details.spare);
 }
 

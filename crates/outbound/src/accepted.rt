@@ -33,7 +33,7 @@ pub fn read_accepted(s: &[u8]) -> AcceptedRead
     let b = legal_or_zeros(answer, s, &zeros, ACCEPTED);
     let body = Accepted {
         stamp: octets::be64(b, 1),
-        token: octets::bytes14_at(b, 9),
+        token: octets::bytes_at(b, 9),
         order: parse_stated(b),
         weight: octets::byte_at(b, 65),
     };

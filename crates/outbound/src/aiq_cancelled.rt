@@ -36,7 +36,7 @@ pub fn read_aiq_cancelled(s: &[u8]) -> AiqCancelledRead
     let b = legal_or_zeros(answer, s, &zeros, AIQ_CANCELLED);
     let body = AiqCancelled {
         stamp: octets::be64(b, 1),
-        token: octets::bytes14_at(b, 9),
+        token: octets::bytes_at(b, 9),
         decrement: Removed(octets::be32(b, 23)),
         reason: octets::byte_at(b, 27),
         prevented: Removed(octets::be32(b, 28)),

@@ -32,7 +32,7 @@ pub fn read_broken_trade(s: &[u8]) -> BrokenTradeRead
     let b = legal_or_zeros(answer, s, &zeros, BROKEN_TRADE);
     let body = BrokenTrade {
         stamp: octets::be64(b, 1),
-        token: octets::bytes14_at(b, 9),
+        token: octets::bytes_at(b, 9),
         match_number: octets::be64(b, 23),
         reason: octets::byte_at(b, 31),
     };

@@ -29,7 +29,7 @@ pub fn read_cancel_pending(s: &[u8]) -> CancelPendingRead
     let b = legal_or_zeros(answer, s, &zeros, CANCEL_PENDING);
     let body = CancelPending {
         stamp: octets::be64(b, 1),
-        token: octets::bytes14_at(b, 9),
+        token: octets::bytes_at(b, 9),
     };
     CancelPendingRead { answer, body }
 }

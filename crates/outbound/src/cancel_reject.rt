@@ -29,7 +29,7 @@ pub fn read_cancel_reject(s: &[u8]) -> CancelRejectRead
     let b = legal_or_zeros(answer, s, &zeros, CANCEL_REJECT);
     let body = CancelReject {
         stamp: octets::be64(b, 1),
-        token: octets::bytes14_at(b, 9),
+        token: octets::bytes_at(b, 9),
     };
     CancelRejectRead { answer, body }
 }

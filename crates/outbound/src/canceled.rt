@@ -33,7 +33,7 @@ pub fn read_canceled(s: &[u8]) -> CanceledRead
     let b = legal_or_zeros(answer, s, &zeros, CANCELED);
     let body = Canceled {
         stamp: octets::be64(b, 1),
-        token: octets::bytes14_at(b, 9),
+        token: octets::bytes_at(b, 9),
         decrement: Removed(octets::be32(b, 23)),
         reason: octets::byte_at(b, 27),
     };

@@ -35,7 +35,7 @@ pub fn read_executed(s: &[u8]) -> ExecutedRead
     let b = legal_or_zeros(answer, s, &zeros, EXECUTED);
     let body = Executed {
         stamp: octets::be64(b, 1),
-        token: octets::bytes14_at(b, 9),
+        token: octets::bytes_at(b, 9),
         shares: Removed(octets::be32(b, 23)),
         price: octets::be32(b, 27),
         flag: octets::byte_at(b, 31),

@@ -33,7 +33,7 @@ pub fn read_modified(s: &[u8]) -> ModifiedRead
     let b = legal_or_zeros(answer, s, &zeros, MODIFIED);
     let body = Modified {
         stamp: octets::be64(b, 1),
-        token: octets::bytes14_at(b, 9),
+        token: octets::bytes_at(b, 9),
         side: octets::byte_at(b, 23),
         shares: Removed(octets::be32(b, 24)),
     };

@@ -33,7 +33,7 @@ pub fn read_priority_update(s: &[u8]) -> PriorityUpdateRead
     let b = legal_or_zeros(answer, s, &zeros, PRIORITY_UPDATE);
     let body = PriorityUpdate {
         stamp: octets::be64(b, 1),
-        token: octets::bytes14_at(b, 9),
+        token: octets::bytes_at(b, 9),
         price: octets::be32(b, 23),
         display: octets::byte_at(b, 27),
         reference: octets::be64(b, 28),

@@ -31,7 +31,7 @@ pub fn read_rejected(s: &[u8]) -> RejectedRead
     let b = legal_or_zeros(answer, s, &zeros, REJECTED);
     let body = Rejected {
         stamp: octets::be64(b, 1),
-        token: octets::bytes14_at(b, 9),
+        token: octets::bytes_at(b, 9),
         reason: octets::byte_at(b, 23),
     };
     RejectedRead { answer, body }

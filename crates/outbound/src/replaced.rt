@@ -34,9 +34,9 @@ pub fn read_replaced(s: &[u8]) -> ReplacedRead
     let b = legal_or_zeros(answer, s, &zeros, REPLACED);
     let body = Replaced {
         stamp: octets::be64(b, 1),
-        token: octets::bytes14_at(b, 9),
+        token: octets::bytes_at(b, 9),
         order: parse_stated(b),
-        previous: octets::bytes14_at(b, 65),
+        previous: octets::bytes_at(b, 65),
         weight: octets::byte_at(b, 79),
     };
     ReplacedRead { answer, body }

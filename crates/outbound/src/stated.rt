@@ -31,10 +31,10 @@ pub(crate) fn parse_stated(s: &[u8]) -> Stated
     Stated {
         side: octets::byte_at(s, 23),
         shares: Removed(octets::be32(s, 24)),
-        stock: octets::bytes8_at(s, 28),
+        stock: octets::bytes_at(s, 28),
         price: octets::be32(s, 36),
         time: octets::be32(s, 40),
-        firm: octets::bytes4_at(s, 44),
+        firm: octets::bytes_at(s, 44),
         display: octets::byte_at(s, 48),
         reference: octets::be64(s, 49),
         capacity: octets::byte_at(s, 57),

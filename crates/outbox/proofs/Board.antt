@@ -3,7 +3,7 @@
 use Rattle.octets.proofs.Proving.{Bool, List, [], ◌++◌, ◌+◌, ◌-◌, ◌<◌, ◌∙◌, ◌≡◌, ◌≤◌, ◌⊎◌, ap, ap₂, arith, dec_le, drop, false, get_or, inl, inr, length, refl, sym, take, take_all, take-append_seam, true, ℕ}
 use Rattle.octets.specs.Bytes.{part}
 use Rattle.octets.specs.Choice.{pick}
-use Rattle.answers.specs.declared.Answer.TheVariants.{Done}
+use Rattle.answers.specs.Answer.{Done}
 use Rattle.outbox.specs.Outbox.{Marks, ring_good, free_bytes, held, message_place, put_answer, put_ring, put_marks, read_run, release_answer, release_marks}
 use Rattle.outbox.specs.Place.{read_place}
 use Rattle.outbox.proofs.Lists.{take-taken}

@@ -1,6 +1,6 @@
 -- Reading and releasing, round after round, brings out every held byte in order, and two rounds do. Assumes nothing.
 use Rattle.octets.proofs.Proving.{List, [], ◌++◌, ◌+◌, ◌-◌, ◌∙◌, ◌≡◌, ◌≤◌, ap, ap₂, arith, le-ltb, length, refl, suc, sym, take, take-append-drop, take-nil, true, zero, ℕ, ⊎_elim}
-use Rattle.answers.specs.declared.Answer.TheVariants.{Done}
+use Rattle.answers.specs.Answer.{Done}
 use Rattle.outbox.specs.Outbox.{Marks, ring_good, around, held, read_run, release_answer, marks_without}
 use Rattle.outbox.specs.Drain.{after_round, drained}
 use Rattle.outbox.proofs.Right.{right}

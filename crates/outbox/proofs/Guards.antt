@@ -3,8 +3,8 @@
 use Rattle.octets.proofs.Proving.{Bool, List, ◌∙◌, ◌≡◌, ◌≤◌, ap, false, le-ltb, length, ltb, ltb-false, not, refl, sym, true, ℕ}
 use Rattle.octets.specs.Choice.{first_of◌, ◌⇒◌⨾◌}
 use Rattle.answers.specs.Answer.{is_done, if_done}
-use Rattle.answers.specs.declared.Answer.{Answer}
-use Rattle.answers.specs.declared.Answer.TheVariants.{Done, WrongRing, Blocked, NotHeld}
+use Rattle.answers.specs.Answer.{Answer}
+use Rattle.answers.specs.Answer.{Done, WrongRing, Blocked, NotHeld}
 use Rattle.outbox.specs.Outbox.{Marks, ring_good, free_bytes, put_answer, put_marks, put_ring, marks_with, ring_with, release_answer, release_marks, marks_without}
 
 abbrev guarded : Bool → Bool → Answer → Answer

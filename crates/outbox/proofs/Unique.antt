@@ -10,7 +10,7 @@ use contract.Monad.{Fun, fact}
 use denote.Triple.Entry.{Args, Res}
 use denote.Triple.Clauses.{AtExit}
 use Rattle.octets.proofs.Settles.{Settles, Settled, SettledBoth, ◌and◌, ◌also◌, settled, settled-both, one-pair}
-use Rattle.answers.specs.declared.Answer.{Answer}
+use Rattle.answers.specs.Answer.{Answer}
 use Rattle.outbox.specs.Outbox.{Marks, release_answer, release_marks}
 use Rattle.outbox.proofs as outbox
 use Rattle.outbox.specs.contracts.release.release_in_place as in_place

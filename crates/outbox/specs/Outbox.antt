@@ -3,8 +3,8 @@ use Rattle.std.specs.Prelude.{ℕ, ◌+◌, ◌-◌, Bool, not, List, [], ◌∷
 use Rattle.octets.specs.Choice.{pick, every, first_of◌, ◌⇒◌⨾◌}
 use Rattle.outbox.specs.Limits.{shortest_ring, longest_ring}
 use Rattle.answers.specs.Answer.{if_done}
-use Rattle.answers.specs.declared.Answer.{Answer}
-use Rattle.answers.specs.declared.Answer.TheVariants.{Done, WrongRing, NotHeld, Blocked}
+use Rattle.answers.specs.Answer.{Answer}
+use Rattle.answers.specs.Answer.{Done, WrongRing, NotHeld, Blocked}
 pub use Rattle.outbox.specs.declared.marks.Marks.{Marks}
 pub use Rattle.outbox.specs.declared.marks.Moved.{Moved}
 

@@ -4,7 +4,7 @@ ghost use Rattle.outbox.specs.Outbox.{ring_good, free_bytes, ring_with, marks_wi
 ghost use Rattle.outbox.specs.Runs.{in_two_runs};
 
 use crate::marks::{Marks, Moved, around, refused, ring_good};
-use answers::Answer;
+use answers::Refusal;
 
 // Takes the message, or turns it away: the ring is judged and the room asked for before the first byte is written.
 pub fn put(ring: &mut [u8], marks: Marks, message: &[u8]) -> Moved
@@ -16,14 +16,14 @@ pub fn put(ring: &mut [u8], marks: Marks, message: &[u8]) -> Moved
         if message.len() <= n - held {
             let grown = append(ring, marks, message);
             Moved {
-                answer: Answer::Done,
+                answer: Ok(()),
                 marks: grown,
             }
         } else {
-            refused(Answer::Blocked, marks)
+            refused(Err(Refusal::Blocked), marks)
         }
     } else {
-        refused(Answer::WrongRing, marks)
+        refused(Err(Refusal::WrongRing), marks)
     }
 }
 

@@ -3,7 +3,7 @@ ghost use Rattle.std.specs.Prelude.{◌≡◌};
 ghost use Rattle.outbox.specs.Outbox.{release_moved, release_answer, release_marks};
 
 use crate::marks::{Marks, Moved, around, refused, ring_good};
-use answers::Answer;
+use answers::{Answer, Refusal};
 
 pub fn release(n: usize, marks: Marks, k: usize) -> Moved
     ensures { result ≡ release_moved n marks k }
@@ -13,17 +13,17 @@ pub fn release(n: usize, marks: Marks, k: usize) -> Moved
         let held = marks.held;
         if k <= held {
             Moved {
-                answer: Answer::Done,
+                answer: Ok(()),
                 marks: Marks {
                     at: around(n, at + k),
                     held: held - k,
                 },
             }
         } else {
-            refused(Answer::NotHeld, marks)
+            refused(Err(Refusal::NotHeld), marks)
         }
     } else {
-        refused(Answer::WrongRing, marks)
+        refused(Err(Refusal::WrongRing), marks)
     }
 }
 

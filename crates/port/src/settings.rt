@@ -25,7 +25,7 @@ fn firm_given(firms: &[u8], k: usize) -> Firm
 {
     let at = FIRM_SIZE * k;
     if at + FIRM_SIZE <= firms.len() {
-        let code = octets::bytes4_at(firms, at);
+        let code = octets::bytes_at(firms, at);
         return Firm { code };
     }
     Firm { code: [0u8; 4] }

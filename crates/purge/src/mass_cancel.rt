@@ -3,7 +3,7 @@ ghost use Rattle.std.specs.Prelude.{◌≡◌, length};
 ghost use Rattle.wire.specs.Messages.{read_answer};
 ghost use Rattle.purge.specs.Purge.{mass_cancel, mass_cancel_of, read_mass_cancel};
 
-use answers::Answer;
+use answers::{Answer, Refusal};
 use wire::frame::taken;
 use wire::judge::is_framed;
 use wire::places::{answer_for, bad_blank, bad_nonzero, earlier};
@@ -30,9 +30,9 @@ pub fn judge_mass_cancel(s: &[u8]) -> Answer
     if is_framed(s, 25, b'M') {
         let account = bad_blank(s, 9, 6);
         let appendage = bad_nonzero(s, 23);
-        return answer_for(earlier(account, appendage), Answer::Done);
+        return answer_for(earlier(account, appendage), Ok(()));
     }
-    Answer::Malformed
+    Err(Refusal::Malformed)
 }
 
 pub fn parse_mass_cancel(s: &[u8]) -> MassCancel
@@ -41,9 +41,9 @@ pub fn parse_mass_cancel(s: &[u8]) -> MassCancel
 {
     MassCancel {
         user_reference: octets::be32(s, 1),
-        firm: octets::bytes4_at(s, 5),
-        account: octets::bytes6_at(s, 9),
-        symbol: octets::bytes8_at(s, 15),
+        firm: octets::bytes_at(s, 5),
+        account: octets::bytes_at(s, 9),
+        symbol: octets::bytes_at(s, 15),
         appendage_length: octets::be16(s, 23),
     }
 }

@@ -4,7 +4,7 @@ ghost use Rattle.std.specs.Prelude.{◌≡◌, length};
 ghost use Rattle.wire.specs.Messages.{read_answer};
 ghost use Rattle.purge.specs.Purge.{order_entry, order_entry_of, read_order_entry, read_disable, read_enable};
 
-use answers::Answer;
+use answers::{Answer, Refusal};
 use wire::frame::taken;
 use wire::judge::is_framed;
 use wire::places::{answer_for, bad_blank};
@@ -31,9 +31,9 @@ pub fn judge_order_entry(s: &[u8], letter: u8) -> Answer
     ensures { result ≡ read_answer (order_entry letter) s.now }
 {
     if is_framed(s, 15, letter) {
-        return answer_for(bad_blank(s, 9, 6), Answer::Done);
+        return answer_for(bad_blank(s, 9, 6), Ok(()));
     }
-    Answer::Malformed
+    Err(Refusal::Malformed)
 }
 
 pub fn parse_order_entry(s: &[u8]) -> OrderEntry
@@ -42,8 +42,8 @@ pub fn parse_order_entry(s: &[u8]) -> OrderEntry
 {
     OrderEntry {
         user_reference: octets::be32(s, 1),
-        firm: octets::bytes4_at(s, 5),
-        account: octets::bytes6_at(s, 9),
+        firm: octets::bytes_at(s, 5),
+        account: octets::bytes_at(s, 9),
     }
 }
 

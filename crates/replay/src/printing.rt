@@ -30,7 +30,7 @@ pub(crate) fn draw(out: Stdout, size: usize, marks: Marks) -> bool {
 
 // The marks after a reader took as much as it takes, or all that is held.
 pub(crate) fn taken_from(size: usize, marks: Marks, takes: usize) -> Marks {
-    let moved = release(size, marks, octets::least(takes, marks.held));
+    let moved = release(size, marks, takes.min(marks.held));
     moved.marks
 }
 
@@ -43,7 +43,7 @@ pub(crate) fn drain(out: Stdout, size: usize, marks: Marks, takes: usize)
     while 0 < held {
         draw(out, size, now);
         now = taken_from(size, now, takes);
-        held = held - octets::least(takes, held);
+        held = held - takes.min(held);
     }
     draw(out, size, now);
 }

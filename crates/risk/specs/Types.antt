@@ -1,5 +1,5 @@
 -- The values that these rules speak of, under their names.
-pub use Rattle.answers.specs.declared.Answer.TheVariants.{UnlistedFirm}
+pub use Rattle.answers.specs.Answer.{UnlistedFirm}
 pub use Rattle.tape.specs.declared.entry.Purge.{Purge}
 pub use Rattle.tape.specs.declared.entry.Blocking.{Blocking}
 pub use Rattle.header.specs.declared.Header.{Header}

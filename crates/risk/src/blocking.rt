@@ -2,7 +2,7 @@
 ghost use Rattle.std.specs.Prelude.{◌≡◌};
 ghost use Rattle.risk.specs.Blocking.{blocking_rule};
 
-use answers::Answer;
+use answers::Refusal;
 use header::Header;
 use header::firms::{firm_place, is_listed};
 use rules::plan::{Decision, blocking, refused};
@@ -16,5 +16,5 @@ pub fn block(h: Header, e: Blocking, on: bool) -> Decision
     if is_listed(h, firm) {
         return blocking(firm_place(h, firm), on);
     }
-    refused(Answer::UnlistedFirm)
+    refused(Err(Refusal::UnlistedFirm))
 }

@@ -4,7 +4,7 @@ ghost use Rattle.octets.specs.Bytes.{all_are};
 ghost use Rattle.wire.specs.Letters.{space};
 ghost use Rattle.risk.specs.Purge.{wanted_by, purge_rule};
 
-use answers::Answer;
+use answers::Refusal;
 use header::Header;
 use header::firms::is_listed;
 use orders::order::{Order, is_live};
@@ -40,10 +40,10 @@ pub fn purge(h: Header, o: Order, e: Purge) -> Decision
 {
     let firm = e.firm;
     if !is_listed(h, firm) {
-        return refused(Answer::UnlistedFirm);
+        return refused(Err(Refusal::UnlistedFirm));
     }
     if !is_live(o) {
-        return refused(Answer::Ignored);
+        return refused(Err(Refusal::Ignored));
     }
     canceled_whole(o)
 }

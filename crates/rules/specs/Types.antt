@@ -1,6 +1,6 @@
 -- The values that the rules speak of, under their names.
-pub use Rattle.answers.specs.declared.Answer.{Answer}
-pub use Rattle.answers.specs.declared.Answer.TheVariants.{Done, Ignored}
+pub use Rattle.answers.specs.Answer.{Answer}
+pub use Rattle.answers.specs.Answer.{Done, Ignored}
 pub use Rattle.wire.specs.declared.shares.Total.{Total}
 pub use Rattle.wire.specs.declared.shares.Removed.{Removed}
 pub use Rattle.wire.specs.declared.price.Price.{Price}

@@ -4,7 +4,7 @@ ghost use Rattle.orders.specs.Counts.{open_shares};
 ghost use Rattle.rules.specs.Cancel.{new_open, cancel_ignored, decrement, canceled_order, late_cancel, cancel_rule};
 
 use crate::plan::{Decision, Notice, changing, refused};
-use answers::Answer;
+use answers::Refusal;
 use inbound::cancel_order::CancelOrder;
 use orders::counts::{cut, open_shares};
 use orders::flags::Flag;
@@ -49,7 +49,7 @@ fn late_cancel(o: Order, size: Total) -> Decision
         return changing(marked(o, Flag::Pending), Notice::CancelPending);
     }
     if is(o, Flag::RejectSent) {
-        return refused(Answer::Ignored);
+        return refused(Err(Refusal::Ignored));
     }
     changing(marked(o, Flag::RejectSent), Notice::CancelReject)
 }
@@ -58,7 +58,7 @@ pub fn cancel(o: Order, e: CancelOrder) -> Decision
     ensures { result ≡ cancel_rule o e }
 {
     if cancel_ignored(o, e.size) {
-        return refused(Answer::Ignored);
+        return refused(Err(Refusal::Ignored));
     }
     if is(o, Flag::Late) {
         return late_cancel(o, e.size);

@@ -8,7 +8,7 @@ ghost use Rattle.rules.specs.Types.{Letter};
 ghost use Rattle.rules.specs.Enter.{bad_display, bad_shares, bad_minimum, fault_of_numbers, bad_stock, enter_fault, accepted_terms, entered_kept, entered_order, enter_rule};
 
 use crate::plan::{Decision, accepting, refused, rejecting};
-use answers::Answer;
+use answers::Refusal;
 use header::firms::{firm_blocked, is_listed, meant_firm};
 use header::{Header, is_open_day};
 use inbound::enter_order::EnterOrder;
@@ -180,7 +180,7 @@ pub fn enter(h: Header, found: Order, standing: Standing, e: EnterOrder) -> Deci
     ensures { result ≡ enter_rule h found standing e }
 {
     if is_used(found) {
-        return refused(Answer::Ignored);
+        return refused(Err(Refusal::Ignored));
     }
     let token = e.token;
     let sent = e.firm;

@@ -3,7 +3,7 @@ ghost use Rattle.std.specs.Prelude.{◌≡◌};
 ghost use Rattle.rules.specs.Modify.{side_allowed, modified_order, modify_ignored, modify_rule};
 
 use crate::plan::{Decision, Notice, changing, refused};
-use answers::Answer;
+use answers::Refusal;
 use header::{Header, is_open_day};
 use inbound::modify_order::ModifyOrder;
 use orders::counts::{gone_is_below, with_liable};
@@ -40,7 +40,7 @@ pub fn modify(h: Header, o: Order, e: ModifyOrder) -> Decision
     ensures { result ≡ modify_rule h o e }
 {
     if modify_ignored(h, o, e) {
-        return refused(Answer::Ignored);
+        return refused(Err(Refusal::Ignored));
     }
     changing(modified_order(o, e), Notice::Modified)
 }

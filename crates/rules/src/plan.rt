@@ -97,20 +97,20 @@ pub fn refused(answer: Answer) -> Decision
 pub fn changing(o: Order, notice: Notice) -> Decision
     ensures { result ≡ changing o notice }
 {
-    decided(Answer::Done, Begins::Nothing, o, no_order(), false, notice)
+    decided(Ok(()), Begins::Nothing, o, no_order(), false, notice)
 }
 
 pub fn renumbering(o: Order, notice: Notice) -> Decision
     ensures { result ≡ renumbering o notice }
 {
-    decided(Answer::Done, Begins::Nothing, o, no_order(), true, notice)
+    decided(Ok(()), Begins::Nothing, o, no_order(), true, notice)
 }
 
 pub fn accepting(new: Order) -> Decision
     ensures { result ≡ accepting new }
 {
     decided(
-        Answer::Done,
+        Ok(()),
         Begins::Nothing,
         no_order(),
         new,
@@ -123,7 +123,7 @@ pub fn replacing(old: Order, new: Order) -> Decision
     ensures { result ≡ replacing old new }
 {
     decided(
-        Answer::Done,
+        Ok(()),
         Begins::Nothing,
         old,
         new,
@@ -137,7 +137,7 @@ pub fn rejecting(token: [u8; 14], reason: u8) -> Decision
     ensures { result ≡ rejecting token reason }
 {
     decided(
-        Answer::Done,
+        Ok(()),
         Begins::Nothing,
         no_order(),
         rejected_order(token),
@@ -151,7 +151,7 @@ pub fn beginning(day: u8, event: u8) -> Decision
 {
     let none = no_order();
     decided(
-        Answer::Done,
+        Ok(()),
         Begins::Day(day),
         none,
         none,
@@ -166,7 +166,7 @@ pub fn blocking(place: usize, on: bool) -> Decision
 {
     let none = no_order();
     decided(
-        Answer::Done,
+        Ok(()),
         Begins::Block(place, on),
         none,
         none,
@@ -189,7 +189,7 @@ pub fn setting(e: StockState) -> Decision
         stock: e,
     };
     Decision {
-        answer: Answer::Done,
+        answer: Ok(()),
         plan,
     }
 }

@@ -4,7 +4,7 @@ ghost use Rattle.rules.specs.Replace.{bad_beside_price, replacement_order, cance
 
 use crate::enter::{accepted_terms, bad_display, bad_minimum, bad_shares};
 use crate::plan::{Decision, Notice, changing, refused, rejecting, replacing};
-use answers::Answer;
+use answers::Refusal;
 use header::{Header, is_open_day};
 use inbound::replace_order::ReplaceOrder;
 use orders::counts::{gone_is_below, less_gone, open_shares, with_liable};
@@ -75,7 +75,7 @@ pub fn replace(h: Header, old: Order, found: Order, standing: Standing, e: Repla
     ensures { result ≡ replace_rule h old found standing e }
 {
     if !is_live(old) | is_used(found) {
-        return refused(Answer::Ignored);
+        return refused(Err(Refusal::Ignored));
     }
     let token = e.replacement;
     if !is_open_day(h) {

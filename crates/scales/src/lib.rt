@@ -85,7 +85,7 @@ pub fn pq_standing(stocks: &[u8], symbol: &[u8]) -> u8
     requires { (list_good stocks.now ≡ true) × (length symbol.now ≡ symbol_size) }
     ensures { result ≡ standing_number (standing_in stocks.now symbol.now) }
 {
-    let eight = octets::bytes8_at(symbol, 0);
+    let eight = octets::bytes_at(symbol, 0);
     match standing(stocks, eight) {
         Standing::Trading => 1,
         Standing::Halted => 2,

@@ -6,7 +6,7 @@ use crate::words::{
     end_line, say_firm, say_head, say_letter, say_number, say_price, say_refused, say_stamp,
     say_stock, say_token,
 };
-use answers::{is_done, place};
+use answers::{place, is_done};
 use std::io::Stdout;
 use tape::judging::judge;
 use tape::kinds::{Kind, kind_of};

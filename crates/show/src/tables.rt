@@ -4,7 +4,7 @@ use crate::words::{end_line, say, say_firm, say_number, say_refused, say_stamp};
 use answers::{Answer, is_done};
 use header::firms::{MOST_FIRMS, firm_at, firm_blocked};
 use header::{BEFORE, CLOSED, HEADER_SIZE, Header, OPEN};
-use octets::{byte_at, least};
+use octets::byte_at;
 use std::io::Stdout;
 use table::find::order_from;
 use table::places::{header, records_in, used};
@@ -95,7 +95,7 @@ fn show_firm(out: Stdout, h: Header, firm: [u8; 4]) -> bool {
 
 fn show_firms(out: Stdout, h: Header) -> bool {
     let firms = h.firms;
-    let n = least(h.count as usize, MOST_FIRMS);
+    let n = (h.count as usize).min(MOST_FIRMS);
     let mut k: usize = 0;
     while k < n {
         if show_firm(out, h, firm_at(firms, k)) {

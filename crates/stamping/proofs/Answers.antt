@@ -3,8 +3,8 @@
 use Rattle.octets.proofs.Proving.{Bool, List, ◌++◌, ◌+◌, ◌<◌, ◌∙◌, ◌∷◌, ◌≡◌, ◌≤◌, ap, arith, false, get_or, le-ltb, length, lt-ltb, refl, sym, zero-add, ℕ}
 use Rattle.octets.specs.Bytes.{put, digits}
 use Rattle.answers.specs.Answer.{is_done, if_done}
-use Rattle.answers.specs.declared.Answer.{Answer}
-use Rattle.answers.specs.declared.Answer.TheVariants.{Done, NoRoom}
+use Rattle.answers.specs.Answer.{Answer}
+use Rattle.answers.specs.Answer.{Done, NoRoom}
 use Rattle.tape.specs.Kinds.{kind_by, entry_length, layout_of}
 use Rattle.stamping.specs.Stamping.{heard, kind_for, body_for, entry_for, stamp_answer, stamp_after}
 use Rattle.stamping.proofs.Puts.{front_long}

@@ -2,7 +2,7 @@
 use Rattle.octets.proofs.Proving.{List, ◌++◌, ◌+◌, ◌<◌, ◌∙◌, ◌∷◌, ◌≡◌, ◌≤◌, ap, append_assoc, arith, eqb, get_or, guard, length, length-append, sym, true, zero-add, ℕ}
 use Rattle.octets.specs.Bytes.{part, put, digits}
 use Rattle.octets.proofs.Laws.{digits-byte, length_digits, length_part, length-put, put-put}
-use Rattle.answers.specs.declared.Answer.TheVariants.{Done}
+use Rattle.answers.specs.Answer.{Done}
 use Rattle.purge.specs.Purge.{mass_cancel}
 use Rattle.stamping.specs.Stamping.{heard, body_for}
 use Rattle.stamping.proofs.Which.{purge-long, mass-long, firm-and-symbol}

@@ -3,7 +3,7 @@
 use Rattle.octets.proofs.Proving.{Bool, List, Option, ◌<◌, ◌^◌, ◌∙◌, ◌∷◌, ◌≡◌, ap, arith, drop, drop_at, drop-cons, eq-eqb, false, get_or, le-ltb, length, lt-ltb, ltb, ne_eqb, none, refl, sym, take, take_all, take_at, true, ℕ}
 use Rattle.octets.specs.Bytes.{part, digits, number_of}
 use Rattle.octets.proofs.Laws.{length_part, number_digits}
-use Rattle.answers.specs.declared.Answer.TheVariants.{Done}
+use Rattle.answers.specs.Answer.{Done}
 use Rattle.wire.specs.Layout.{Field, unless, or_else, bad_place, first_bad_place}
 use Rattle.wire.specs.Limits.{stamp_end}
 use Rattle.inbound.specs.Inbound.{enter_order_of, replace_order_of, cancel_order_of, modify_order_of}

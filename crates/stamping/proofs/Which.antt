@@ -4,7 +4,7 @@ use Rattle.octets.proofs.Proving.{Bool, List, List·Memᴰ·cases-cons, List·Me
 use Rattle.octets.specs.Choice.{pick}
 use Rattle.octets.specs.Bytes.{part, digits}
 use Rattle.octets.proofs.Laws.{length_part}
-use Rattle.answers.specs.declared.Answer.TheVariants.{Done}
+use Rattle.answers.specs.Answer.{Done}
 use Rattle.wire.specs.Layout.{Layout, Field, shifted, stamp_at, text_at, bad_place, first_bad_place, layout_for, unbroken, well_laid}
 use Rattle.wire.specs.Legal.{Obeys, AllObey, Legal}
 use Rattle.wire.specs.Messages.{enter_order, replace_order, cancel_order, modify_order}

@@ -5,8 +5,8 @@ use Rattle.std.proofs.Math.Option.{Option, none, some}
 use Rattle.octets.specs.Choice.{pick, first_of◌, ◌⇒◌⨾◌}
 use Rattle.octets.specs.Bytes.{part, digits}
 use Rattle.answers.specs.Answer.{if_done}
-use Rattle.answers.specs.declared.Answer.{Answer}
-use Rattle.answers.specs.declared.Answer.TheVariants.{Done, Malformed, NoRoom}
+use Rattle.answers.specs.Answer.{Answer}
+use Rattle.answers.specs.Answer.{Done, Malformed, NoRoom}
 use Rattle.wire.specs.Layout.{Layout, layout_for}
 use Rattle.wire.specs.Messages.{inbound, read_answer}
 use Rattle.purge.specs.Purge.{mass_cancel, disable, requests}

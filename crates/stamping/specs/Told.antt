@@ -1,6 +1,6 @@
 -- What an entry that was made from a message says: nothing but its stamp can be wrong of it, and it is read as the message was.
 use Rattle.std.specs.Prelude.{ℕ, ◌^◌, ◌≤◌, ◌<◌, ◌≡◌, Bool, true, false, List, get_or}
-use Rattle.answers.specs.declared.Answer.TheVariants.{Done, BadField}
+use Rattle.answers.specs.Answer.{Done, BadField}
 use Rattle.wire.specs.Limits.{stamp_end}
 use Rattle.wire.specs.Messages.{enter_order, replace_order, cancel_order, modify_order}
 use Rattle.inbound.specs.Inbound.{enter_order_of, replace_order_of, cancel_order_of, modify_order_of}

@@ -4,10 +4,10 @@
 
 ghost use Rattle.std.specs.Prelude.{◌≡◌, true, false, ◌∷◌, ◌++◌, ◌+◌, ◌≤◌, length};
 ghost use Rattle.octets.specs.Bytes.{put, digits};
-ghost use Rattle.answers.specs.declared.Answer.TheVariants.{Done};
+ghost use Rattle.answers.specs.Answer.{Done};
 ghost use Rattle.stamping.specs.Stamping.{heard, kind_for, body_for, stamp_answer, stamp_after};
 
-use answers::{Answer, is_done};
+use answers::{Answer, Refusal, is_done};
 use octets::{put_be64, put_byte, put_bytes};
 use purge::mass_cancel::judge_mass_cancel;
 use purge::order_entry::{DISABLE, ENABLE, judge_order_entry};
@@ -44,7 +44,7 @@ fn heard_by_purge(message: &[u8]) -> Answer
         b'M' => judge_mass_cancel(message),
         b'D' => judge_order_entry(message, DISABLE),
         b'E' => judge_order_entry(message, ENABLE),
-        _ => Answer::Malformed,
+        _ => Err(Refusal::Malformed),
     }
 }
 
@@ -57,7 +57,7 @@ fn heard_by_host(message: &[u8]) -> Answer
         b'U' => judge(message, REPLACE_ORDER),
         b'X' => judge(message, CANCEL_ORDER),
         b'M' => judge(message, MODIFY_ORDER),
-        _ => Answer::Malformed,
+        _ => Err(Refusal::Malformed),
     }
 }
 
@@ -82,14 +82,14 @@ fn made(purge: bool, stamp: u64, message: &[u8], entry: &mut [u8]) -> Answer
 {
     let kind = kind_for(purge, first_byte(message));
     if entry.len() < entry_length(kind) {
-        return Answer::NoRoom;
+        return Err(Refusal::NoRoom);
     }
     if purge {
         put_purge(entry, kind, stamp, message);
     } else {
         put_entry(entry, kind, stamp, &message[1..]);
     }
-    Answer::Done
+    Ok(())
 }
 
 // The firm, and of a Mass Cancel the symbol behind it.

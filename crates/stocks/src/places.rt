@@ -5,7 +5,7 @@ ghost use Rattle.stocks.specs.Limits.{symbol_size, place_size};
 ghost use Rattle.wire.specs.Legal.{Bytes};
 ghost use Rattle.stocks.specs.Ranks.{rank_at};
 
-use octets::{bytes8_at, number_at};
+use octets::{bytes_at, number_at};
 
 // A place is a symbol and its state.
 pub(crate) const SYMBOL_SIZE: usize = 8;
@@ -26,6 +26,6 @@ pub(crate) fn rank_at(list: &[u8], i: usize) -> u64
     requires { place_size * i + symbol_size ≤ length list.now }
     ensures { result ≡ rank_at list.now i }
 {
-    let symbol = bytes8_at(list, PLACE_SIZE * i);
+    let symbol: [u8; 8] = bytes_at(list, PLACE_SIZE * i);
     rank(&symbol)
 }

@@ -55,7 +55,7 @@ fn begun() -> Run {
 // The run at the read place, or as much of it as the reader takes, is written and given up.
 fn send_run(out: Stdout, ring: &[u8], marks: Marks, takes: usize) -> Sending {
     let run = read(ring, marks);
-    let n = octets::least(takes, run.len());
+    let n = takes.min(run.len());
     let written = out.write_all(&run[0..n]).is_ok();
     let moved = release(ring.len(), marks, n);
     let marks = moved.marks;

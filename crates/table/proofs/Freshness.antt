@@ -4,7 +4,7 @@ use Rattle.octets.specs.Choice.{first_of◌, ◌⇒◌⨾◌}
 use Rattle.octets.specs.Bytes.{zeros, number_of, number_from}
 use Rattle.octets.proofs.Laws.{take-zeros, drop-zeros}
 use Rattle.answers.specs.Answer.{is_done, if_done}
-use Rattle.answers.specs.declared.Answer.TheVariants.{Done, NotSound, BadField}
+use Rattle.answers.specs.Answer.{Done, NotSound, BadField}
 use Rattle.header.specs.Limits.{header_size, sum_place}
 use Rattle.header.specs.declared.Header.{Header}
 use Rattle.header.specs.Settings.{settings_good, fresh_header}

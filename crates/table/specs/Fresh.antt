@@ -3,8 +3,8 @@ use Rattle.std.specs.Prelude.{ℕ, not, List, length}
 use Rattle.octets.specs.Choice.{first_of◌, ◌⇒◌⨾◌}
 use Rattle.octets.specs.Bytes.{zeros}
 use Rattle.answers.specs.Answer.{if_done}
-use Rattle.answers.specs.declared.Answer.{Answer}
-use Rattle.answers.specs.declared.Answer.TheVariants.{Done, NotSound, BadField}
+use Rattle.answers.specs.Answer.{Answer}
+use Rattle.answers.specs.Answer.{Done, NotSound, BadField}
 use Rattle.header.specs.Settings.{settings_good, fresh_header}
 use Rattle.header.specs.declared.settings.Settings.{Settings}
 use Rattle.table.specs.Table.{size_good, store_header}

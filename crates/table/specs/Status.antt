@@ -3,7 +3,7 @@ use Rattle.std.specs.Prelude.{ℕ, Bool, not, ◌&&◌, List, eqb}
 use Rattle.octets.specs.Choice.{first_of◌, ◌⇒◌⨾◌, count_below}
 use Rattle.octets.specs.Bytes.{whole_at}
 use Rattle.bitrow.specs.Row.{ones_in}
-use Rattle.answers.specs.declared.Answer.TheVariants.{Done, NotSound}
+use Rattle.answers.specs.Answer.{Done, NotSound}
 use Rattle.header.specs.Limits.{table_form}
 use Rattle.orders.specs.Order.{is_live}
 use Rattle.table.specs.Table.{size_good, used_in, order_at, bit_bytes, open_sum, sum_below, open_at}

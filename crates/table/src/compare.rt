@@ -4,14 +4,14 @@ ghost use Rattle.octets.specs.Bytes.{whole_at};
 ghost use Rattle.wire.specs.Limits.{token_size};
 ghost use Rattle.table.specs.Backwards.{same_backwards};
 
-use octets::{be32, be64, bytes4_at, bytes8_at, number_at};
+use octets::{be32, be64, bytes_at, number_at};
 
 // Eight bytes as one number. They are copied out first: read from the slice itself their order would be turned around, in each record anew.
 fn eight_at(s: &[u8], at: usize) -> u64
     requires { at + 8 ≤ length s.now }
     ensures { result ≡ whole_at s.now at 8 }
 {
-    let eight = bytes8_at(s, at);
+    let eight: [u8; 8] = bytes_at(s, at);
     be64(&eight, 0)
 }
 
@@ -19,7 +19,7 @@ fn four_at(s: &[u8], at: usize) -> u32
     requires { at + 4 ≤ length s.now }
     ensures { result ≡ whole_at s.now at 4 }
 {
-    let four = bytes4_at(s, at);
+    let four: [u8; 4] = bytes_at(s, at);
     be32(&four, 0)
 }
 

@@ -7,7 +7,7 @@ ghost use Rattle.table.specs.Fresh.{fresh_answer, fresh_table};
 
 use crate::places::store_header;
 use crate::sound::size_good;
-use answers::{Answer, first_of, is_done};
+use answers::{Answer, Refusal, is_done, first_of};
 use header::settings::{Settings, fresh_header, settings_good};
 
 fn clear(table: &mut [u8])
@@ -26,8 +26,8 @@ fn fresh_answer(table: &[u8], settings: Settings) -> Answer
 {
     first_of(
         !size_good(table),
-        Answer::NotSound,
-        first_of(!settings_good(settings), Answer::BadField(0), Answer::Done),
+        Err(Refusal::NotSound),
+        first_of(!settings_good(settings), Err(Refusal::BadField(0)), Ok(())),
     )
 }
 

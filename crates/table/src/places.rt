@@ -7,7 +7,6 @@ ghost use Rattle.orders.specs.Limits.{record_size};
 ghost use Rattle.table.specs.Table.{records_in, record_place, HasRecord, head_bytes, record_bytes, header, used_in, order_at, bit_bytes, store_header};
 
 use header::{HEADER_SIZE, Header, SUM_PLACE, header_of, put_header};
-use octets::least;
 use orders::order::Order;
 use orders::record::{RECORD_SIZE, order_of};
 
@@ -64,7 +63,7 @@ pub(crate) fn record_bytes(table: &[u8], i: usize) -> &[u8]
 pub(crate) fn bit_bytes(table: &[u8]) -> &[u8]
     ensures { result.now ≡ bit_bytes table.now }
 {
-    let place = least(HEADER_SIZE + RECORD_SIZE * records_in(table), table.len());
+    let place = (HEADER_SIZE + RECORD_SIZE * records_in(table)).min(table.len());
     &table[place..table.len()]
 }
 
@@ -82,10 +81,7 @@ pub fn used(table: &[u8]) -> usize
     if table.len() < HEADER_SIZE {
         return 0;
     }
-    least(
-        octets::be32(&table[0..SUM_PLACE], 4) as usize,
-        records_in(table),
-    )
+    (octets::be32(&table[0..SUM_PLACE], 4) as usize).min(records_in(table))
 }
 
 pub(crate) fn order_at(table: &[u8], i: usize) -> Order

@@ -5,7 +5,7 @@ ghost use Rattle.table.specs.Status.{form_good, status};
 use crate::places::bit_bytes;
 use crate::sound::size_good;
 use crate::store::open_sum;
-use answers::Answer;
+use answers::{Answer, Refusal};
 use bitrow::ones;
 use header::TABLE_FORM;
 use octets::byte_at;
@@ -33,13 +33,13 @@ pub fn status(table: &[u8]) -> Tally
 {
     if form_good(table) {
         return Tally {
-            answer: Answer::Done,
+            answer: Ok(()),
             live: ones(bit_bytes(table)),
             shares: open_sum(table) as usize,
         };
     }
     Tally {
-        answer: Answer::NotSound,
+        answer: Err(Refusal::NotSound),
         live: 0,
         shares: 0,
     }

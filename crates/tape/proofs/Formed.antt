@@ -1,7 +1,7 @@
 -- What judging knows of an entry whose kind is known: how long it is, and where its first bad place is looked for. Assumes nothing.
 use Rattle.octets.proofs.Proving.{Bool, List, ◌∙◌, ◌∷◌, ◌≡◌, ◌≤◌, ap, arith, eqb, eqb-false, eqb-true, false, get_or, length, not, not-true, refl, sym, true, ℕ}
 use Rattle.octets.proofs.Below.{both}
-use Rattle.answers.specs.declared.Answer.TheVariants.{Malformed, Done}
+use Rattle.answers.specs.Answer.{Malformed, Done}
 use Rattle.wire.specs.Layout.{stamp_at, place, bad_place, first_bad_place, unbroken}
 use Rattle.wire.specs.Messages.{place_answer}
 use Rattle.wire.proofs.Found.{not-at-0}

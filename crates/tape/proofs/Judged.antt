@@ -1,6 +1,6 @@
 -- Every entry is judged as its kind's layout says, the place of its first bad byte included. Assumes nothing.
 use Rattle.octets.proofs.Proving.{Bool, List, Option, ◌<◌, ◌∙◌, ◌≡◌, arith, false, none, refl, some, sym, true, ℕ}
-use Rattle.answers.specs.declared.Answer.TheVariants.{Malformed, BadField, Done}
+use Rattle.answers.specs.Answer.{Malformed, BadField, Done}
 use Rattle.wire.specs.Legal.{FirstBad, ◌exactly_when◌}
 use Rattle.wire.specs.Messages.{bad_at◌⨾◌}
 use Rattle.wire.proofs.BadPlaces.{first-from}

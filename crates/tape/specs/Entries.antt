@@ -2,8 +2,8 @@
 use Rattle.std.specs.Prelude.{ℕ, Bool, not, ◌&&◌, List, length, drop, get_or, leb, eqb}
 use Rattle.std.proofs.Math.Option.{Option}
 use Rattle.octets.specs.Choice.{first_of◌, ◌⇒◌⨾◌}
-use Rattle.answers.specs.declared.Answer.{Answer}
-use Rattle.answers.specs.declared.Answer.TheVariants.{Done, Malformed}
+use Rattle.answers.specs.Answer.{Answer}
+use Rattle.answers.specs.Answer.{Done, Malformed}
 use Rattle.wire.specs.Layout.{stamp_at, token_at, first_bad_place, get, reading}
 use Rattle.wire.specs.Messages.{bad_at◌⨾◌}
 use Rattle.wire.specs.Shares.{removed}

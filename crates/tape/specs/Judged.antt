@@ -1,7 +1,7 @@
 -- What judging an entry answers, said without computing (Answer numbers 2 and 3, Ask 1): 2 where its kind or length is wrong, 3 where a byte
 -- is bad, with the smallest offset of one, counted from the kind byte as 0; and no other answer has a place.
 use Rattle.std.specs.Prelude.{ℕ, ◌≡◌, true, List}
-use Rattle.answers.specs.declared.Answer.TheVariants.{Malformed, BadField}
+use Rattle.answers.specs.Answer.{Malformed, BadField}
 use Rattle.wire.specs.Legal.{FirstBad, ◌exactly_when◌, PlaceWith3}
 use Rattle.tape.specs.Kinds.{kind_of, layout_of}
 use Rattle.tape.specs.Entries.{well_formed, entry_answer}

@@ -6,7 +6,7 @@ ghost use Rattle.tape.specs.Entries.{well_formed, bad_place_of, entry_answer};
 ghost use Rattle.tape.specs.Behind.{behind_of, judged_fields, Within};
 
 use crate::kinds::{Kind, kind_of, length_of};
-use answers::Answer;
+use answers::{Answer, Refusal};
 use wire::judge::bad_inbound;
 use wire::messages::{CANCEL_ORDER, ENTER_ORDER, MODIFY_ORDER, REPLACE_ORDER};
 use wire::places::{
@@ -20,9 +20,9 @@ pub fn judge(entry: &[u8]) -> Answer
 {
     let kind = kind_of(entry);
     if well_formed(entry, kind) {
-        return answer_for(first_bad(entry, kind), Answer::Done);
+        return answer_for(first_bad(entry, kind), Ok(()));
     }
-    Answer::Malformed
+    Err(Refusal::Malformed)
 }
 
 // What is no kind has length 0, and no entry has.

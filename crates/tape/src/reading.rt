@@ -9,7 +9,7 @@ use inbound::cancel_order::{CancelOrder, parse_cancel_order};
 use inbound::enter_order::{EnterOrder, parse_enter_order};
 use inbound::modify_order::{ModifyOrder, parse_modify_order};
 use inbound::replace_order::{ReplaceOrder, parse_replace_order};
-use octets::{be32, be64, byte_at, bytes4_at, bytes8_at, bytes14_at};
+use octets::{be32, be64, byte_at, bytes_at};
 use wire::shares::Removed;
 
 // Every body opens with a stamp.
@@ -44,7 +44,7 @@ pub fn token_of(entry: &[u8]) -> [u8; 14]
     requires { token_end ≤ length entry.now }
     ensures { result ≡ token_of entry.now }
 {
-    bytes14_at(entry, 9)
+    bytes_at(entry, 9)
 }
 
 pub fn execution_of(entry: &[u8]) -> Execution
@@ -104,7 +104,7 @@ pub fn stock_state_of(entry: &[u8]) -> StockState
     ensures { result ≡ stock_state_of entry.now }
 {
     StockState {
-        symbol: bytes8_at(entry, 9),
+        symbol: bytes_at(entry, 9),
         state: byte_at(entry, 17),
     }
 }
@@ -114,8 +114,8 @@ pub fn purge_of(entry: &[u8]) -> Purge
     ensures { result ≡ purge_of entry.now }
 {
     Purge {
-        firm: bytes4_at(entry, 9),
-        symbol: bytes8_at(entry, 13),
+        firm: bytes_at(entry, 9),
+        symbol: bytes_at(entry, 13),
     }
 }
 
@@ -124,7 +124,7 @@ pub fn blocking_of(entry: &[u8]) -> Blocking
     ensures { result ≡ blocking_of entry.now }
 {
     Blocking {
-        firm: bytes4_at(entry, 9),
+        firm: bytes_at(entry, 9),
     }
 }
 

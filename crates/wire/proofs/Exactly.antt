@@ -3,7 +3,7 @@
 -- Assumes nothing.
 use Rattle.octets.proofs.Proving.{Bool, List, Option, ◌<◌, ◌∙◌, ◌≡◌, arith, eqb, eqb-false, eqb-true, false, get_or, length, ltb, none, refl, some, sym, true, ℕ, ⊎_elim}
 use Rattle.octets.specs.Choice.{◌⇒◌⨾◌}
-use Rattle.answers.specs.declared.Answer.TheVariants.{Done, Malformed, BadField, NoRoom}
+use Rattle.answers.specs.Answer.{Done, Malformed, BadField, NoRoom}
 use Rattle.octets.specs.Bytes.{part, number_of}
 use Rattle.wire.specs.Letters.{sides, sweeps}
 use Rattle.wire.specs.Limits.{stamp_end, token_size}

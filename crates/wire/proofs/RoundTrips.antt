@@ -4,8 +4,8 @@ use Rattle.octets.proofs.Proving.{List, Option, T, ◌++◌, ◌∙◌, ◌≡�
 use Rattle.octets.specs.Choice.{◌⇒◌⨾◌}
 use Rattle.octets.specs.Bytes.{zeros}
 use Rattle.answers.specs.Answer.{is_done, if_done}
-use Rattle.answers.specs.declared.Answer.{Answer}
-use Rattle.answers.specs.declared.Answer.TheVariants.{Done, NoRoom}
+use Rattle.answers.specs.Answer.{Answer}
+use Rattle.answers.specs.Answer.{Done, NoRoom}
 use Rattle.wire.specs.Layout.{Layout, Values, Fits, FromFields, at_once, reading, read_fields, first_bad_place, spell, well_laid}
 use Rattle.wire.specs.Messages.{bad_at◌⨾◌, message_layout, read_answer, legal_or_zeros, write_answer, buffer_after}
 use Rattle.wire.specs.Legal.{Bytes}

@@ -1,7 +1,7 @@
 -- Values that obey their fields' rules, spelled, are a legal message. Assumes nothing.
 use Rattle.octets.proofs.Proving.{List, List·Memᴰ·cases-cons, List·Memᴰ·not-nil, [], ◌++◌, ◌+◌, ◌∙◌, ◌∷◌, ◌≡◌, append_assoc, ap₂, length, length-append, refl, subst, sym, true, ℕ, ⊎_elim}
 use Rattle.octets.specs.Bytes.{part}
-use Rattle.answers.specs.declared.Answer.TheVariants.{Done}
+use Rattle.answers.specs.Answer.{Done}
 use Rattle.wire.specs.Layout.{Field, Values, spell_value, spell_fields, Layout, spell, unbroken, well_laid}
 use Rattle.wire.specs.Legal.{Obeys, AllObey}
 use Rattle.wire.specs.Messages.{read_answer}

@@ -1,8 +1,8 @@
 -- The place that an answer tells: with 3 the smallest offset of a bad byte, and 0 with every other answer; once over all fields. Assumes nothing.
 use Rattle.octets.proofs.Proving.{List, Option, ◌<◌, ◌≡◌, ◌⊎◌, ap, arith, inl, inr, none, refl, some, subst, true, ℕ}
 use Rattle.answers.specs.Answer.{answer_number, answer_place}
-use Rattle.answers.specs.declared.Answer.{Answer}
-use Rattle.answers.specs.declared.Answer.TheVariants.{BadField}
+use Rattle.answers.specs.Answer.{Answer}
+use Rattle.answers.specs.Answer.{BadField}
 use Rattle.answers.proofs.Laws.{by_place}
 use Rattle.wire.specs.Layout.{Field, first_bad_place, unbroken}
 use Rattle.wire.specs.Legal.{FirstBad, ◌exactly_when◌, PlaceWith3}

@@ -4,8 +4,8 @@ use Rattle.octets.specs.Choice.{◌⇒◌⨾◌}
 use Rattle.octets.specs.Bytes.{put}
 use Rattle.octets.proofs.Below.{both}
 use Rattle.answers.specs.Answer.{is_done, if_done}
-use Rattle.answers.specs.declared.Answer.{Answer}
-use Rattle.answers.specs.declared.Answer.TheVariants.{Done, Malformed, BadField, NoRoom}
+use Rattle.answers.specs.Answer.{Answer}
+use Rattle.answers.specs.Answer.{Done, Malformed, BadField, NoRoom}
 use Rattle.answers.proofs.Laws.{is-done}
 use Rattle.wire.specs.Layout.{Layout, place, first_bad_place}
 use Rattle.wire.specs.Messages.{bad_at◌⨾◌, place_answer, framed, read_answer, write_answer, buffer_after}

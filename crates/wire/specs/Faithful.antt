@@ -1,7 +1,7 @@
 -- What is promised of a message's struct beside its functions' own contracts: that reading and writing are each other's inverses, and that the
 -- answers are given exactly when the paper says.
 use Rattle.std.specs.Prelude.{ℕ, ◌≤◌, ◌≡◌, List, ◌++◌, length, take, drop, get_or}
-use Rattle.answers.specs.declared.Answer.TheVariants.{Done, Malformed, BadField}
+use Rattle.answers.specs.Answer.{Done, Malformed, BadField}
 use Rattle.wire.specs.Layout.{Layout, Values, Fits}
 use Rattle.wire.specs.Legal.{Bytes, Legal, FirstBad, ◌exactly_when◌, PlaceWith3}
 use Rattle.wire.specs.Messages.{read_answer, write_answer, buffer_after}

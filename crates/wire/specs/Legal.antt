@@ -5,7 +5,7 @@ use Prim.Native.String as Text
 use mathlib.Core.List.{List, Memᴰ}
 use Rattle.octets.specs.Bytes.{part, number_of}
 use Rattle.answers.specs.Answer.{answer_number, answer_place}
-use Rattle.answers.specs.declared.Answer.{Answer}
+use Rattle.answers.specs.Answer.{Answer}
 use Rattle.wire.specs.Letters.{space}
 use Rattle.wire.specs.Layout.{Rule, free, below, between, one_of, legal_token, blank, Field, Layout}
 

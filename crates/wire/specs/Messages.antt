@@ -5,8 +5,8 @@ use Rattle.std.specs.Prelude.{Bool, not, ◌&&◌, List, [], ◌∷◌, ◌++◌
 use Rattle.std.proofs.Math.Option.{Option, none, some}
 use Rattle.octets.specs.Choice.{pick, first_of◌, ◌⇒◌⨾◌}
 use Rattle.answers.specs.Answer.{if_done}
-use Rattle.answers.specs.declared.Answer.{Answer}
-use Rattle.answers.specs.declared.Answer.TheVariants.{Done, Malformed, BadField, NoRoom}
+use Rattle.answers.specs.Answer.{Answer}
+use Rattle.answers.specs.Answer.{Done, Malformed, BadField, NoRoom}
 use Rattle.octets.specs.Bytes.{zeros}
 use Rattle.wire.specs.Limits.{longest_message}
 use Rattle.wire.specs.Layout.{Layout, Field, stamp_at, token_at, side_at, sweep_at, letter_at, whole_at, text_at, first_bad_place, layout_for, shifted}

@@ -7,7 +7,7 @@ ghost use Rattle.wire.specs.Messages.{message_layout, read_answer, legal_or_zero
 use crate::judge::first_bad;
 use crate::messages::size;
 use crate::places::answer_for;
-use answers::{Answer, first_of, is_done};
+use answers::{Answer, Refusal, is_done, first_of};
 
 // The first of two parts where a call was done, else the second. Its address says that it is the caller's own memory.
 pub fn taken<'a>(answer: Answer, s: &'a [u8], blank: &'a [u8]) -> &'a [u8]
@@ -37,7 +37,7 @@ pub fn send(buffer: &mut [u8], spelled: [u8; 80], k: usize) -> Answer
     let bytes = &spelled[0..n];
     let answer = answer_for(
         first_bad(bytes, k),
-        first_of(buffer.len() < n, Answer::NoRoom, Answer::Done),
+        first_of(buffer.len() < n, Err(Refusal::NoRoom), Ok(())),
     );
     if is_done(answer) {
         octets::put_bytes(buffer, 0, bytes);

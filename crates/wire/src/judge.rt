@@ -8,16 +8,16 @@ use crate::messages::{
     letter_of, size,
 };
 use crate::places::{NOWHERE, answer_for, bad_side, bad_stamp, bad_sweep, bad_token, earlier};
-use answers::Answer;
+use answers::{Answer, Refusal};
 
 // Length and type, then the judged fields.
 pub fn judge(s: &[u8], k: usize) -> Answer
     ensures { result ≡ read_answer (message_layout k) s.now }
 {
     if is_framed(s, size(k), letter_of(k)) {
-        return answer_for(first_bad(s, k), Answer::Done);
+        return answer_for(first_bad(s, k), Ok(()));
     }
-    Answer::Malformed
+    Err(Refusal::Malformed)
 }
 
 // Whether bytes have a message's length and its type. The purge port's messages, which are none of the sixteen, are asked the same.

@@ -12,7 +12,7 @@ use crate::letters::{
 };
 use crate::price::Price;
 use crate::text::is_token_byte;
-use answers::Answer;
+use answers::{Answer, Refusal};
 
 // A place is an offset. No judged field lies at 0, so 0 says that nothing is bad; as a number it stays in a register.
 pub const NOWHERE: usize = 0;
@@ -37,7 +37,7 @@ pub fn answer_for(bad: usize, next: Answer) -> Answer
     if bad == NOWHERE {
         return next;
     }
-    Answer::BadField(bad)
+    Err(Refusal::BadField(bad))
 }
 
 // A field that is judged as a whole is bad from its first byte on.

@@ -21,7 +21,7 @@ fn with_digit(n: usize, digit: u8) -> usize
     if b'9' < digit {
         return NO_NUMBER;
     }
-    octets::least(n * 10 + (digit - b'0') as usize, NO_NUMBER)
+    (n * 10 + (digit - b'0') as usize).min(NO_NUMBER)
 }
 
 // No digit at all is 0, which no word takes either.

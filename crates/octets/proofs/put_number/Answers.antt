@@ -1,5 +1,4 @@
--- The loop's invariant: what is still to be put, the first `k` bytes of `rest`, makes of `s` what is to be made of it. The measure is `k`.
--- Assumes nothing.
+-- A digit put, from the last to the first. Assumes nothing.
 use Rattle.octets.proofs.Proving.{◌-◌, ◌∙◌, ◌≡◌, ap, arith, length-set, suc, sym, ℕ}
 use Rattle.octets.specs.Bytes.{put, digits}
 use Rattle.octets.proofs.Laws.{put-digits, put-none}
@@ -10,9 +9,8 @@ loop-k-preserved c =
     let a = c.args in
     let l = c.loop-k in
     let e : suc (l.k - 1) ≡ l.k = omega arith in (
-      omega arith,
-      simp length-set l.invariant.1,
-      put-digits l.s a.at (l.k - 1) l.rest (omega arith) ∙ ap (λ (n : ℕ). put l.s a.at (digits n l.rest)) e ∙ l.invariant.2,
+      simp length-set l.invariant.0,
+      put-digits l.s a.at (l.k - 1) l.rest (omega arith) ∙ ap (λ (n : ℕ). put l.s a.at (digits n l.rest)) e ∙ l.invariant.1,
     )
 
 pub returns : goal.returns
@@ -21,4 +19,4 @@ returns c =
     let a = c.args in
     let l = c.loop-k in
     let e : l.k ≡ 0 = omega arith in
-    sym (put-none l.s a.at) ∙ ap (λ (n : ℕ). put l.s a.at (digits n l.rest)) (sym e) ∙ l.invariant.2
+    sym (put-none l.s a.at) ∙ ap (λ (n : ℕ). put l.s a.at (digits n l.rest)) (sym e) ∙ l.invariant.1

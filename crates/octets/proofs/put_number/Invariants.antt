@@ -1,11 +1,7 @@
--- The loop's invariant: what is still to be put, the first `k` bytes of `rest`, makes of `s` what is to be made of it. The measure is `k`.
--- Assumes nothing.
-use Rattle.octets.proofs.Proving.{◌≡◌, ◌≤◌, length}
+-- What is still to be put, the first `k` bytes of `rest`, makes of `s` what is to be made of it.
+use Rattle.octets.proofs.Proving.{◌≡◌, length}
 use Rattle.octets.specs.Bytes.{put, digits}
 use Rattle.octets.proofs.put_number.Given as goal
 
 abbrev pub invariant-loop-k : goal.invariant-loop-k
-invariant-loop-k l = (l.k ≤ l.width) × (length l.s ≡ length l.initial.s) × (put l.s l.at (digits l.k l.rest) ≡ put l.initial.s l.at (digits l.width l.v))
-
-abbrev pub decreases-loop-k : goal.decreases-loop-k
-decreases-loop-k l = l.k
+invariant-loop-k l = (length l.s ≡ length l.initial.s) × (put l.s l.at (digits l.k l.rest) ≡ put l.initial.s l.at (digits l.width l.v))

@@ -1,21 +1,12 @@
--- The loop's invariant: `ok` says that the k bytes passed are the same. The measure is what is left of b.
-use Rattle.octets.proofs.Proving.{◌+◌, ◌∙◌, ◌≡◌, ap, arith, eqb, get_or, length, refl, ℕ}
-use Rattle.octets.specs.Choice.{all_below}
-use Rattle.octets.proofs.Below.{all-next, part_same}
+-- The comparison goes byte by byte, as the definition does. Assumes nothing.
+use Rattle.octets.proofs.Proving.{◌∙◌, ◌+◌, ◌-◌, ◌≡◌, ap, arith, drop, length, take, ℕ}
+use Rattle.octets.specs.Bytes.{same}
+use Rattle.octets.proofs.Below.{compared}
 use Rattle.octets.proofs.same_at.Goals as goal
-
-pub loop-k-init : goal.loop-k-init
-unfolding all_below
-loop-k-init c = (omega arith, refl)
-
-pub loop-k-preserved : goal.loop-k-preserved
-loop-k-preserved c =
-    let a = c.args in
-    (omega arith, all-next (λ j. eqb (get_or a.s.now (a.at + j) 0) (get_or a.b.now j 0)) _ c.loop-k.invariant.1 refl)
 
 pub returns : goal.returns
 returns c =
     let a = c.args in
-    let e : c.loop-k.k ≡ length a.b.now = omega arith in
-    c.loop-k.invariant.1 ∙ ap (λ (m : ℕ). all_below m (λ j. eqb (get_or a.s.now (a.at + j) 0) (get_or a.b.now j 0))) e
-    ∙ part_same a.s.now a.at a.b.now c.requires
+    let n = length a.b.now in
+    let e : a.at + n - a.at ≡ n = omega arith in
+    c.eq.ensures ∙ compared (take (a.at + n - a.at) (drop a.at a.s.now)) a.b.now ∙ ap (λ (m : ℕ). same (take m (drop a.at a.s.now)) a.b.now) e

@@ -5,7 +5,7 @@ use Rattle.header.proofs.firms.firm_at.Goals as goal
 
 pub returns-then-k-lt-MOST_FIRMS : goal.returns-then-k-lt-MOST_FIRMS
 unfolding firm_at
-returns-then-k-lt-MOST_FIRMS c = rw (c.bytes4_at.ensures, lt-ltb _ 8 c.if-k-lt-MOST_FIRMS.true)
+returns-then-k-lt-MOST_FIRMS c = rw (c.bytes_at.ensures, lt-ltb _ 8 c.if-k-lt-MOST_FIRMS.true)
 
 pub returns : goal.returns
 unfolding firm_at

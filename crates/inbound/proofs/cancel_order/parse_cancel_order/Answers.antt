@@ -4,4 +4,4 @@ use Rattle.inbound.proofs.cancel_order.parse_cancel_order.Goals as goal
 
 pub returns : goal.returns
 unfolding cancel_order_of
-returns c = rw (c.be32.ensures, c.bytes14_at.ensures)
+returns c = rw (c.be32.ensures, c.bytes_at.ensures)

@@ -4,4 +4,4 @@ use Rattle.inbound.proofs.modify_order.parse_modify_order.Goals as goal
 
 pub returns : goal.returns
 unfolding modify_order_of
-returns c = rw (c.be32.ensures, c.byte_at.ensures, c.bytes14_at.ensures)
+returns c = rw (c.be32.ensures, c.byte_at.ensures, c.bytes_at.ensures)

@@ -7,5 +7,5 @@ unfolding replace_order_of
 returns c = rw (c.be32-4.ensures, c.byte_at-2.ensures, c.byte_at.ensures)
     (rw (c.be32-3.ensures, c.be32-2.ensures)
     (rw c.be32.ensures
-    (rw c.bytes14_at-2.ensures
-    (rw c.bytes14_at.ensures))))
+    (rw c.bytes_at-2.ensures
+    (rw c.bytes_at.ensures))))

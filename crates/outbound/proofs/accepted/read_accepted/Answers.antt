@@ -4,6 +4,6 @@ use Rattle.outbound.proofs.accepted.read_accepted.Goals as goal
 
 pub returns : goal.returns
 unfolding accepted_of stated_of
-returns c = rw (c.byte_at.ensures, c.parse_stated.ensures, c.bytes14_at.ensures)
+returns c = rw (c.byte_at.ensures, c.parse_stated.ensures, c.bytes_at.ensures)
     (rw (c.be64.ensures, c.legal_or_zeros-b.ensures.result_value)
     (rw c.judge-answer.ensures))

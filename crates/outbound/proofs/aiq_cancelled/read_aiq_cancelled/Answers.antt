@@ -7,6 +7,6 @@ unfolding aiq_cancelled_of
 returns c =
     let legal = c in
     rw (c.byte_at-2.ensures, c.be32-3.ensures, c.be32-2.ensures, c.byte_at.ensures)
-    (rw (c.be32.ensures, c.bytes14_at.ensures)
+    (rw (c.be32.ensures, c.bytes_at.ensures)
     (rw (c.be64.ensures, legal.legal_or_zeros-b.ensures.result_value)
     (rw legal.judge-answer.ensures)))

@@ -4,5 +4,5 @@ use Rattle.outbound.proofs.cancel_pending.read_cancel_pending.Goals as goal
 
 pub returns : goal.returns
 unfolding cancel_pending_of
-returns c = rw (c.bytes14_at.ensures, c.be64.ensures, c.legal_or_zeros-b.ensures.result_value)
+returns c = rw (c.bytes_at.ensures, c.be64.ensures, c.legal_or_zeros-b.ensures.result_value)
     (rw c.judge-answer.ensures)

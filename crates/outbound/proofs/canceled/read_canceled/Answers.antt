@@ -4,6 +4,6 @@ use Rattle.outbound.proofs.canceled.read_canceled.Goals as goal
 
 pub returns : goal.returns
 unfolding canceled_of
-returns c = rw (c.byte_at.ensures, c.be32.ensures, c.bytes14_at.ensures)
+returns c = rw (c.byte_at.ensures, c.be32.ensures, c.bytes_at.ensures)
     (rw (c.be64.ensures, c.legal_or_zeros-b.ensures.result_value)
     (rw c.judge-answer.ensures))

@@ -5,7 +5,7 @@ use Rattle.outbound.proofs.executed.read_executed.Goals as goal
 pub returns : goal.returns
 unfolding executed_of
 returns c = rw (c.be64-2.ensures, c.byte_at.ensures, c.be32-2.ensures)
-    (rw (c.be32.ensures, c.bytes14_at.ensures)
+    (rw (c.be32.ensures, c.bytes_at.ensures)
     (rw c.be64.ensures
     (rw c.legal_or_zeros-b.ensures.result_value
     (rw c.judge-answer.ensures))))

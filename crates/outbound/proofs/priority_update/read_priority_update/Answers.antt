@@ -5,6 +5,6 @@ use Rattle.outbound.proofs.priority_update.read_priority_update.Goals as goal
 pub returns : goal.returns
 unfolding priority_update_of
 returns c = rw (c.be64-2.ensures, c.byte_at.ensures, c.be32.ensures)
-    (rw (c.bytes14_at.ensures, c.be64.ensures)
+    (rw (c.bytes_at.ensures, c.be64.ensures)
     (rw c.legal_or_zeros-b.ensures.result_value
     (rw c.judge-answer.ensures)))

@@ -4,5 +4,5 @@ use Rattle.outbound.proofs.rejected.read_rejected.Goals as goal
 
 pub returns : goal.returns
 unfolding rejected_of
-returns c = rw (c.byte_at.ensures, c.bytes14_at.ensures, c.be64.ensures)
+returns c = rw (c.byte_at.ensures, c.bytes_at.ensures, c.be64.ensures)
     (rw (c.legal_or_zeros-b.ensures.result_value, c.judge-answer.ensures))

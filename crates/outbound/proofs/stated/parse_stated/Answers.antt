@@ -9,6 +9,6 @@ returns state =
     rw (state.byte_at-6.ensures, state.byte_at-5.ensures, state.be32-4.ensures)
     (rw (state.byte_at-4.ensures, state.byte_at-3.ensures)
     (rw state.be64.ensures
-    (rw (state.byte_at-2.ensures, firm.bytes4_at.ensures, firm.be32-3.ensures)
-    (rw (firm.be32-2.ensures, firm.bytes8_at.ensures)
+    (rw (state.byte_at-2.ensures, firm.bytes_at.ensures, firm.be32-3.ensures)
+    (rw (firm.be32-2.ensures, firm.bytes_at.ensures)
     (rw (firm.be32.ensures, firm.byte_at.ensures))))))

@@ -1,7 +1,7 @@
 -- At each return the tests that led there are the guards of `put_answer`. Assumes nothing.
 use Rattle.octets.proofs.Proving.{◌∙◌, ◌≡◌, ap, arith, le-ltb, length, lt-ltb, refl, sym, true}
 use Rattle.answers.specs.Answer.{is_done, if_done}
-use Rattle.answers.specs.declared.Answer.TheVariants.{Done}
+use Rattle.answers.specs.Answer.{Done}
 use Rattle.outbox.specs.Outbox.{Marks, ring_good, free_bytes, put_answer, put_marks, put_ring}
 use Rattle.outbox.proofs.Right.{right}
 use Rattle.outbox.proofs.put.put.Goals as goal

@@ -5,7 +5,7 @@ use Rattle.port.proofs.settings.firm_given.Goals as goal
 
 pub returns-then-at-firms : goal.returns-then-at-firms
 unfolding firm_given
-returns-then-at-firms c = rw (c.bytes4_at-code.ensures, le-leb _ _ c.if-at-firms.true)
+returns-then-at-firms c = rw (c.bytes_at-code.ensures, le-leb _ _ c.if-at-firms.true)
 
 pub returns : goal.returns
 unfolding firm_given

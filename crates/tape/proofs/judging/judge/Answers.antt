@@ -1,6 +1,6 @@
 -- 2 where it is not well formed; else what its first bad place answers. Assumes nothing.
 use Rattle.octets.proofs.Proving.{◌∙◌, ap, sym, ℕ}
-use Rattle.answers.specs.declared.Answer.TheVariants.{Done}
+use Rattle.answers.specs.Answer.{Done}
 use Rattle.wire.specs.Messages.{place_answer}
 use Rattle.tape.proofs.Formed.{answer-judged, answer-malformed}
 use Rattle.tape.proofs.judging.judge.Goals as goal

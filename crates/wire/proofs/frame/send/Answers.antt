@@ -1,7 +1,7 @@
 -- What was found decides, and only a done writer puts its bytes. Assumes nothing.
 use Rattle.octets.proofs.Proving.{◌∙◌, ap, arith, length, length-take, ltb, sub-zero, sym, ℕ}
 use Rattle.octets.specs.Choice.{◌⇒◌⨾◌}
-use Rattle.answers.specs.declared.Answer.TheVariants.{NoRoom, Done}
+use Rattle.answers.specs.Answer.{NoRoom, Done}
 use Rattle.wire.specs.Messages.{message_layout}
 use Rattle.wire.proofs.Numbered.{at-most-longest, none-at-0}
 use Rattle.wire.proofs.Verdicts.{roomy, not-sent, sent}
