@@ -9,5 +9,5 @@ unfolding piece_of
 returns c =
     let l = c.unread-bytes in
     let n = c.args.feed.len in
-    ap (λ (k : ℕ). take k l.result.now) c.least-n.ensures ∙ take-least n l.result.now
+    ap (λ (k : ℕ). take k l.result.now) c.min-n.ensures ∙ take-least n l.result.now
     ∙ ap (take n) (rw c.held_by.ensures at l.ensures)

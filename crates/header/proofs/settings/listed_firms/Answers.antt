@@ -21,4 +21,4 @@ pub returns : goal.returns
 returns c =
     let loop = c in
     let start = loop in
-    loop.loop-k.invariant.1.0 ∙ row-all start.args.firms start.args.count loop.loop-k.k (omega arith) (omega (arith, loop.least-listed.ensures)) loop.loop-k.invariant.1.1
+    loop.loop-k.invariant.1.0 ∙ row-all start.args.firms start.args.count loop.loop-k.k (omega arith) (omega (arith, loop.min-listed.ensures)) loop.loop-k.invariant.1.1

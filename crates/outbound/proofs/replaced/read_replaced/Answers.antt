@@ -4,7 +4,4 @@ use Rattle.outbound.proofs.replaced.read_replaced.Goals as goal
 
 pub returns : goal.returns
 unfolding replaced_of stated_of
-returns c = rw (c.byte_at.ensures, c.bytes_at-2.ensures, c.parse_stated.ensures)
-    (rw (c.bytes_at.ensures, c.be64.ensures)
-    (rw c.legal_or_zeros-b.ensures.result_value
-    (rw c.judge-answer.ensures)))
+returns c = cc

@@ -4,4 +4,4 @@ use Rattle.purge.proofs.order_entry.parse_order_entry.Goals as goal
 
 pub returns : goal.returns
 unfolding order_entry_of
-returns c = rw (c.bytes_at.ensures, c.bytes_at.ensures, c.be32.ensures)
+returns c = cc

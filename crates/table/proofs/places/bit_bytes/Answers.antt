@@ -15,9 +15,9 @@ pub returns : goal.returns
 unfolding bit_bytes record_place
 returns c =
     let t = c.args.table.now in
-    let m : ℕ = c.least-place.result in
+    let m : ℕ = c.min-place.result in
     let at : ℕ = 64 + 80 * records_in t in
-    let e : m ≡ min at (length t) = rw c.records_in.ensures at c.least-place.ensures in
+    let e : m ≡ min at (length t) = rw c.records_in.ensures at c.min-place.ensures in
     take_all (length t - m) (drop m t) (omega (arith, length-drop m t))
     ∙ elim (dec_le at (length t)) [
       | yes l ↦ let f : m ≡ at = omega (arith, e) in ap (λ (k : ℕ). drop k t) f

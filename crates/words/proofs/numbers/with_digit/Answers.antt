@@ -19,6 +19,6 @@ returns-then-digit-gt57 c =
 pub returns : goal.returns
 unfolding with_digit
 returns c = (
-  c.least.ensures ∙ simp (le-ltb _ _ c.if-n-gt-LARGEST.false, le-ltb _ _ c.if-digit-lt48.false, le-ltb _ _ c.if-digit-gt57.false),
-  omega (arith, c.least.ensures),
+  c.min.ensures ∙ simp (le-ltb _ _ c.if-n-gt-LARGEST.false, le-ltb _ _ c.if-digit-lt48.false, le-ltb _ _ c.if-digit-gt57.false),
+  omega (arith, c.min.ensures),
 )
