@@ -1,5 +1,6 @@
 -- What the sixteen echoes cite: what was read is written as it was, and the type says which layout it is. Assumes nothing.
-use Rattle.octets.proofs.Proving.{Bool, List, List·get_d-eq-default, Option, [], ◌∙◌, ◌∷◌, ◌≡◌, ap, arith, eqb, false, get_or, length, ne_eqb, none, some, sym, true, ℕ}
+use Rattle.octets.proofs.Proving.{Bool, List, List·get_d-eq-default, [], ◌∙◌, ◌∷◌, ◌≡◌, ap, arith, eqb, false, get_or, length, ne_eqb, sym, true, ℕ}
+use Rattle.std.specs.Prelude.{Option, None, Some}
 use Rattle.octets.specs.Choice.{pick}
 use Rattle.answers.specs.Answer.{is_done, if_done}
 use Rattle.answers.specs.Answer.{Answer}
@@ -40,22 +41,22 @@ module _ (l : Layout) (s : List ℕ) {G : Type 0} {g h : G} (found : g ≡ h) (a
 
 -- `layout_for`, open to computation
 abbrev layout_with : List Layout → ℕ → Option Layout
-layout_with [] code = none
-layout_with (l ∷ ls) code = pick (eqb l.code code) (some l) (layout_with ls code)
+layout_with [] code = None
+layout_with (l ∷ ls) code = pick (eqb l.code code) (Some l) (layout_with ls code)
 
 computed : (ls : List Layout) (code : ℕ) → layout_for ls code ≡ layout_with ls code
 unfolding layout_for
 computed [] code = refl
-computed (l ∷ ls) code = ap (pick (eqb l.code code) (some l)) (computed ls code)
+computed (l ∷ ls) code = ap (pick (eqb l.code code) (Some l)) (computed ls code)
 
 -- a type that was found
-pub known : (ls : List Layout) (s out : List ℕ) {code : ℕ} {l : Layout} → get_or s 0 0 ≡ code → layout_with ls code ≡ some l → {r : Answer} {exit : List ℕ}
+pub known : (ls : List Layout) (s out : List ℕ) {code : ℕ} {l : Layout} → get_or s 0 0 ≡ code → layout_with ls code ≡ Some l → {r : Answer} {exit : List ℕ}
     → (r ≡ echo_answer l s out) × (exit ≡ echoed l s out) → (r ≡ answer_among ls s out) × (exit ≡ echoed_among ls s out)
 unfolding answer_among echoed_among
 known ls s out {code} first is w = let f = ap (layout_for ls) first ∙ computed ls code ∙ is in rw f w
 
 -- where there is no byte
-pub nothing : (ls : List Layout) (s out : List ℕ) → length s ≡ 0 → layout_with ls 0 ≡ none → (Malformed ≡ answer_among ls s out) × (out ≡ echoed_among ls s out)
+pub nothing : (ls : List Layout) (s out : List ℕ) → length s ≡ 0 → layout_with ls 0 ≡ None → (Malformed ≡ answer_among ls s out) × (out ≡ echoed_among ls s out)
 unfolding answer_among echoed_among
 nothing ls s out e is = let f = ap (layout_for ls) (List·get_d-eq-default s 0 {n = 0} (omega arith)) ∙ computed ls 0 ∙ is in rw f (refl, refl)
 
@@ -64,7 +65,7 @@ abbrev Unlike : Type 0 → List Layout → ℕ → Type 0
 Unlike others [] code = others
 Unlike others (l ∷ ls) code = Unlike (others × (code ≡ l.code → ⊥)) ls code
 
-none_is : (others : Type 0) (ls : List Layout) (code : ℕ) → Unlike others ls code → others × (layout_for ls code ≡ none)
+none_is : (others : Type 0) (ls : List Layout) (code : ℕ) → Unlike others ls code → others × (layout_for ls code ≡ None)
 unfolding layout_for
 none_is others [] code h = (h, refl)
 none_is others (l ∷ ls) code h =

@@ -1,7 +1,6 @@
 -- Reading a message and writing it back (Messages and entries: readers and writers exist for all sixteen). The message comes back as it was,
 -- so what is written is what was read.
-use Rattle.std.specs.Prelude.{ℕ, Bool, List, get_or}
-use Rattle.std.proofs.Math.Option.{Option, none, some}
+use Rattle.std.specs.Prelude.{ℕ, Bool, List, get_or, Option, None, Some}
 use Rattle.octets.specs.Choice.{pick}
 use Rattle.answers.specs.Answer.{if_done}
 use Rattle.answers.specs.Answer.{Answer}
@@ -19,12 +18,12 @@ echoed l s out = if_done (read_answer l s) (buffer_after l s out) out
 
 -- the same where the type says which layout it is; a type that none has is 2
 abbrev pub answer_for : Option Layout → List ℕ → List ℕ → Answer
-answer_for none s out = Malformed
-answer_for (some l) s out = echo_answer l s out
+answer_for None s out = Malformed
+answer_for (Some l) s out = echo_answer l s out
 
 abbrev pub echoed_for : Option Layout → List ℕ → List ℕ → List ℕ
-echoed_for none s out = out
-echoed_for (some l) s out = echoed l s out
+echoed_for None s out = out
+echoed_for (Some l) s out = echoed l s out
 
 unfoldable pub answer_among : List Layout → List ℕ → List ℕ → Answer
 answer_among ls s out = answer_for (layout_for ls (get_or s 0 0)) s out

@@ -1,10 +1,12 @@
 -- An entry that was made says what it was made of: nothing but its stamp can be wrong of it, and it is read as the message was.
 -- Assumes nothing.
-use Rattle.octets.proofs.Proving.{Bool, List, Option, ◌<◌, ◌^◌, ◌∙◌, ◌∷◌, ◌≡◌, ap, arith, drop, drop_at, drop-cons, eq-eqb, false, get_or, le-ltb, length, lt-ltb, ltb, ne_eqb, none, refl, sym, take, take_all, take_at, true, ℕ}
+use Rattle.std.specs.Option.{option_or}
+use Rattle.octets.proofs.Proving.{Bool, List, ◌<◌, ◌^◌, ◌∙◌, ◌∷◌, ◌≡◌, ap, arith, drop, drop_at, drop-cons, eq-eqb, false, get_or, le-ltb, length, lt-ltb, ltb, ne_eqb, refl, sym, take, take_all, take_at, true, ℕ}
+use Rattle.std.specs.Prelude.{Option, None}
 use Rattle.octets.specs.Bytes.{part, digits, number_of}
 use Rattle.octets.proofs.Laws.{length_part, number_digits}
 use Rattle.answers.specs.Answer.{Done}
-use Rattle.wire.specs.Layout.{Field, unless, or_else, bad_place, first_bad_place}
+use Rattle.wire.specs.Layout.{Field, unless, bad_place, first_bad_place}
 use Rattle.wire.specs.Limits.{stamp_end}
 use Rattle.inbound.specs.Inbound.{enter_order_of, replace_order_of, cancel_order_of, modify_order_of}
 use Rattle.purge.specs.Purge.{mass_cancel, mass_cancel_of, order_entry_of}
@@ -41,12 +43,12 @@ module _ (purge : Bool) (stamp : ℕ) (m : List ℕ) where
         let size = (layout_of (kind_of made)).size in
         rw (ne_eqb size 0 (λ z. omega (arith, z, long)), eq-eqb (length made) size long)
 
-    place_is : bad_place_of made ≡ or_else (unless (ltb (number_of (part made 1 8)) stamp_end) 1) none
+    place_is : bad_place_of made ≡ option_or (unless (ltb (number_of (part made 1 8)) stamp_end) 1) None
     unfolding bad_place_of first_bad_place bad_place
     place_is =
         let w = goes purge m done in
         ap (λ (fs : List Field). first_bad_place fs made) (ap (λ (k : Kind). (layout_of k).fields) kind-is ∙ w.fields)
-        ∙ ap (λ (o : Option ℕ). or_else (unless (ltb (number_of (part made 1 8)) stamp_end) 1) o) (w.clean stamp)
+        ∙ ap (λ (o : Option ℕ). option_or (unless (ltb (number_of (part made 1 8)) stamp_end) 1) o) (w.clean stamp)
 
     entry-judged : stamp < 2 ^ 64 → Judged stamp made
     unfolding entry_answer stamp_of

@@ -1,6 +1,7 @@
 -- What a message is that was let through: one of the seven, legal, and with a kind of entry in which all but the stamp is as it should be.
 -- Assumes nothing.
-use Rattle.octets.proofs.Proving.{Bool, List, List·Memᴰ·cases-cons, List·Memᴰ·head, List·Memᴰ·not-nil, List·Memᴰ·tail, [], ◌++◌, ◌+◌, ◌-◌, ◌∙◌, ◌∷◌, ◌≡◌, ◌≤◌, ap, arith, drop, drop-drop, eq-eqb, eqb, false, get_or, length, length-append, length-drop, map, ne_eqb, none, refl, some, subst, suc, sym, take, take_all, true, zero, ℕ, ⊎_elim}
+use Rattle.octets.proofs.Proving.{Bool, List, List·Memᴰ·cases-cons, List·Memᴰ·head, List·Memᴰ·not-nil, List·Memᴰ·tail, [], ◌++◌, ◌+◌, ◌-◌, ◌∙◌, ◌∷◌, ◌≡◌, ◌≤◌, ap, arith, drop, drop-drop, eq-eqb, eqb, false, get_or, length, length-append, length-drop, map, ne_eqb, refl, subst, suc, sym, take, take_all, true, zero, ℕ, ⊎_elim}
+use Rattle.std.specs.Prelude.{None, Some}
 use Rattle.octets.specs.Choice.{pick}
 use Rattle.octets.specs.Bytes.{part, digits}
 use Rattle.octets.proofs.Laws.{length_part}
@@ -28,14 +29,14 @@ pub data AtPurge (m : List ℕ) : Type 0 where
   disabling : Legal disable m → AtPurge m
   enabling : Legal enable m → AtPurge m
 
-no_more : {A : Type 0} (m : List ℕ) → read_as none m ≡ Done → A
+no_more : {A : Type 0} (m : List ℕ) → read_as None m ≡ Done → A
 no_more m h = let z : ◌≡◌ {A = ℕ} 0 1 = cc in absurd (omega arith)
 
 pub at-purge : (m : List ℕ) → heard true m ≡ Done → AtPurge m
 unfolding heard layout_for
 at-purge m h = go (eqb mass_cancel.code (get_or m 0 0)) (eqb disable.code (get_or m 0 0)) (eqb enable.code (get_or m 0 0)) h
   where
-    go : (a b c : Bool) → read_as (pick a (some mass_cancel) (pick b (some disable) (pick c (some enable) none))) m ≡ Done → AtPurge m
+    go : (a b c : Bool) → read_as (pick a (Some mass_cancel) (pick b (Some disable) (pick c (Some enable) None))) m ≡ Done → AtPurge m
     go true b c h = purging ((done-exactly mass_cancel m).0 h)
     go false true c h = disabling ((done-exactly disable m).0 h)
     go false false true h = enabling ((done-exactly enable m).0 h)
@@ -47,7 +48,7 @@ at-host m h =
     go (eqb enter_order.code (get_or m 0 0)) (eqb replace_order.code (get_or m 0 0)) (eqb cancel_order.code (get_or m 0 0)) (eqb modify_order.code (get_or m 0 0)) h
   where
     go : (a b c d : Bool)
-        → read_as (pick a (some enter_order) (pick b (some replace_order) (pick c (some cancel_order) (pick d (some modify_order) none)))) m ≡ Done
+        → read_as (pick a (Some enter_order) (pick b (Some replace_order) (pick c (Some cancel_order) (pick d (Some modify_order) None)))) m ≡ Done
         → AtHost m
     go true b c d h = entering ((done-exactly enter_order m).0 h)
     go false true c d h = replacing ((done-exactly replace_order m).0 h)
@@ -131,7 +132,7 @@ pub record Goes (purge : Bool) (m : List ℕ) : Type 0 where
   -- the fields behind the stamp, none of which is bad
   pub behind : List Field
   pub fields : (layout_of kind).fields ≡ stamp_at 1 ∷ behind
-  pub clean : (stamp : ℕ) → first_bad_place behind (entry_for purge stamp m) ≡ none
+  pub clean : (stamp : ℕ) → first_bad_place behind (entry_for purge stamp m) ≡ None
 
 client : (m : List ℕ) (l : Layout) (kind : Kind) → layout_of kind ≡ stamped l → kind_by l.code ≡ kind → well_laid l ≡ true → Legal l m → Goes false m
 unfolding well_laid kind_for body_for

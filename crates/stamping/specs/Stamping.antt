@@ -1,7 +1,6 @@
 -- An entry of the tape, made from a message and the time at which it came (Ask 5): the four messages of a client under their own letters, and
 -- the purge port's three as w, d and n.
-use Rattle.std.specs.Prelude.{ℕ, Bool, List, ◌∷◌, ◌++◌, length, get_or, drop, ltb, eqb}
-use Rattle.std.proofs.Math.Option.{Option, none, some}
+use Rattle.std.specs.Prelude.{ℕ, Bool, List, ◌∷◌, ◌++◌, length, get_or, drop, ltb, eqb, Option, None, Some}
 use Rattle.octets.specs.Choice.{pick, first_of◌, ◌⇒◌⨾◌}
 use Rattle.octets.specs.Bytes.{part, digits}
 use Rattle.answers.specs.Answer.{if_done}
@@ -17,8 +16,8 @@ abbrev pub takes : Bool → List Layout
 takes purge = pick purge requests inbound
 
 abbrev pub read_as : Option Layout → List ℕ → Answer
-read_as none m = Malformed
-read_as (some l) m = read_answer l m
+read_as None m = Malformed
+read_as (Some l) m = read_answer l m
 
 -- what the message's own reader answers; 2 where the port takes none of this type
 unfoldable pub heard : Bool → List ℕ → Answer

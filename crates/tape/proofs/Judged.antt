@@ -1,5 +1,6 @@
 -- Every entry is judged as its kind's layout says, the place of its first bad byte included. Assumes nothing.
-use Rattle.octets.proofs.Proving.{Bool, List, Option, ◌<◌, ◌∙◌, ◌≡◌, arith, false, none, refl, some, sym, true, ℕ}
+use Rattle.octets.proofs.Proving.{Bool, List, ◌<◌, ◌∙◌, ◌≡◌, arith, false, refl, sym, true, ℕ}
+use Rattle.std.specs.Prelude.{Option, None, Some}
 use Rattle.answers.specs.Answer.{Malformed, BadField, Done}
 use Rattle.wire.specs.Legal.{FirstBad, ◌exactly_when◌}
 use Rattle.wire.specs.Messages.{bad_at◌⨾◌}
@@ -36,8 +37,8 @@ module _ (s : List ℕ) where
   malformed-not w a = go (bad_place_of s) (sym (looked-at w) ∙ a)
     where
       go : (o : Option ℕ) → (bad_at o ⨾ Done) ≡ Malformed → ⊥
-      go none e = let z : ◌≡◌ {A = ℕ} 0 1 = cc in omega arith
-      go (some at) e = let z : ◌≡◌ {A = ℕ} 0 1 = cc in omega arith
+      go None e = let z : ◌≡◌ {A = ℕ} 0 1 = cc in omega arith
+      go (Some at) e = let z : ◌≡◌ {A = ℕ} 0 1 = cc in omega arith
 
   malformed-when : (well_formed s ≡ true → ⊥) → entry_answer s ≡ Malformed
   malformed-when h = go (well_formed s) refl

@@ -1,6 +1,5 @@
 -- The entries of a tape, judged and read (Messages and entries; Answer numbers 2 and 3).
-use Rattle.std.specs.Prelude.{ℕ, Bool, not, ◌&&◌, List, length, drop, get_or, leb, eqb}
-use Rattle.std.proofs.Math.Option.{Option}
+use Rattle.std.specs.Prelude.{ℕ, Bool, not, ◌&&◌, List, length, drop, get_or, leb, eqb, Option}
 use Rattle.octets.specs.Choice.{first_of◌, ◌⇒◌⨾◌}
 use Rattle.answers.specs.Answer.{Answer}
 use Rattle.answers.specs.Answer.{Done, Malformed}

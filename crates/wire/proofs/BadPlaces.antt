@@ -1,11 +1,12 @@
 -- The first bad place of a list of fields: there is none exactly when every field obeys its rule, and where there is one it is the smallest
 -- offset of a bad byte. Assumes nothing.
-use Rattle.octets.proofs.Proving.{Bool, List, List·Memᴰ·cases-cons, List·Memᴰ·head, List·Memᴰ·not-nil, List·Memᴰ·tail, Option, [], ◌+◌, ◌∙◌, ◌∷◌, ◌≡◌, ◌≤◌, ◌⊎◌, ap, arith, drop, false, inl, inr, length, length-take, none, refl, some, subst, sym, true, ℕ, ⊎_elim}
+use Rattle.std.specs.Option.{option_or}
+use Rattle.octets.proofs.Proving.{Bool, List, List·Memᴰ·cases-cons, List·Memᴰ·head, List·Memᴰ·not-nil, List·Memᴰ·tail, [], ◌+◌, ◌∙◌, ◌∷◌, ◌≡◌, ◌≤◌, ◌⊎◌, ap, arith, drop, false, inl, inr, length, length-take, refl, subst, sym, true, ℕ, ⊎_elim}
+use Rattle.std.specs.Prelude.{Option, None, Some}
 use Rattle.octets.specs.Bytes.{part, number_of}
-use Rattle.octets.specs.Choice.{among}
 use Rattle.wire.specs.Letters.{space}
 use Rattle.wire.specs.Text.{token_byte}
-use Rattle.wire.specs.Layout.{Rule, free, below, between, one_of, legal_token, blank, Field, unless, bad_place, or_else, first_bad_place, unbroken}
+use Rattle.wire.specs.Layout.{Rule, free, below, between, one_of, legal_token, blank, Field, unless, bad_place, first_bad_place, unbroken}
 use Rattle.wire.specs.Legal.{LetterDigitOrSpace, Obeys, ◌∈◌, AllObey, BadByte, BadIn, FirstBad}
 use Rattle.wire.proofs.Layouts.{none_before, first-at, rest-unbroken}
 use Rattle.wire.proofs.Says.{Says, not_so, says-lt, says-within, says-token, says-among, says-are}
@@ -14,26 +15,26 @@ use Rattle.wire.proofs.FirstNot.{no_place, some_is, token-bytes, all_pass, none_
 -- ---- a field that is judged as a whole
 
 module _ {ok : Bool} {P : Type 0} (says : Says ok P) (at : ℕ) where
-  whole-obeys : unless ok at ≡ none → P
+  whole-obeys : unless ok at ≡ None → P
   whole-obeys h = go ok refl h
     where
-      go : (b : Bool) → ok ≡ b → unless b at ≡ none → P
+      go : (b : Bool) → ok ≡ b → unless b at ≡ None → P
       go true e h = says.so e
       go false e h = no_place (sym h)
 
-  whole-clean : P → unless ok at ≡ none
+  whole-clean : P → unless ok at ≡ None
   whole-clean h = ap (λ (b : Bool). unless b at) (says.test h)
 
-  whole-bad : {p : ℕ} → unless ok at ≡ some p → (p ≡ at) × (P → ⊥)
+  whole-bad : {p : ℕ} → unless ok at ≡ Some p → (p ≡ at) × (P → ⊥)
   whole-bad {p} h = go ok refl h
     where
-      go : (b : Bool) → ok ≡ b → unless b at ≡ some p → (p ≡ at) × (P → ⊥)
+      go : (b : Bool) → ok ≡ b → unless b at ≡ Some p → (p ≡ at) × (P → ⊥)
       go true e h = no_place h
       go false e h = (sym (some_is h), not_so says e)
 
 -- ---- one field
 
-obeyed : (rule : Rule) (at : ℕ) (xs : List ℕ) → bad_place rule at xs ≡ none → Obeys rule xs
+obeyed : (rule : Rule) (at : ℕ) (xs : List ℕ) → bad_place rule at xs ≡ None → Obeys rule xs
 unfolding bad_place Obeys
 obeyed free at xs h = tt
 obeyed (below n) at xs h = whole-obeys (says-lt (number_of xs) n) at h
@@ -42,7 +43,7 @@ obeyed (one_of letters) at xs h = whole-obeys (says-among letters (number_of xs)
 obeyed legal_token at xs h = all_pass token_byte LetterDigitOrSpace says-token at xs (sym (token-bytes at xs) ∙ h)
 obeyed blank at xs h = whole-obeys (says-are space xs) at h
 
-clean : (rule : Rule) (at : ℕ) (xs : List ℕ) → Obeys rule xs → bad_place rule at xs ≡ none
+clean : (rule : Rule) (at : ℕ) (xs : List ℕ) → Obeys rule xs → bad_place rule at xs ≡ None
 unfolding bad_place Obeys
 clean free at xs h = refl
 clean (below n) at xs h = whole-clean (says-lt (number_of xs) n) at h
@@ -51,7 +52,7 @@ clean (one_of letters) at xs h = whole-clean (says-among letters (number_of xs))
 clean legal_token at xs h = token-bytes at xs ∙ none_found token_byte LetterDigitOrSpace says-token at xs h
 clean blank at xs h = whole-clean (says-are space xs) at h
 
-bad-there : (rule : Rule) (at : ℕ) (xs : List ℕ) (p : ℕ) → bad_place rule at xs ≡ some p → BadByte rule at xs p
+bad-there : (rule : Rule) (at : ℕ) (xs : List ℕ) (p : ℕ) → bad_place rule at xs ≡ Some p → BadByte rule at xs p
 unfolding bad_place BadByte Obeys
 bad-there free at xs p h = no_place h
 bad-there (below n) at xs p h = whole-bad (says-lt (number_of xs) n) at h
@@ -71,10 +72,10 @@ bad-inside legal_token at xs q b = (omega (arith, b.1.0), omega (arith, b.1.0, b
 bad-inside blank at xs q b = (omega (arith, b.0), omega (arith, b.0))
 
 -- and so does the place that is found
-pub bad-from : (rule : Rule) (at : ℕ) (xs : List ℕ) {p : ℕ} → bad_place rule at xs ≡ some p → at ≤ p
+pub bad-from : (rule : Rule) (at : ℕ) (xs : List ℕ) {p : ℕ} → bad_place rule at xs ≡ Some p → at ≤ p
 bad-from rule at xs {p} h = (bad-inside rule at xs p (bad-there rule at xs p h)).0
 
-bad-first : (rule : Rule) (at : ℕ) (xs : List ℕ) (p : ℕ) → bad_place rule at xs ≡ some p → (q : ℕ) → BadByte rule at xs q → p ≤ q
+bad-first : (rule : Rule) (at : ℕ) (xs : List ℕ) (p : ℕ) → bad_place rule at xs ≡ Some p → (q : ℕ) → BadByte rule at xs q → p ≤ q
 unfolding bad_place BadByte
 bad-first free at xs p h q b = absurd b
 bad-first (below n) at xs p h q b = omega (arith, (whole-bad (says-lt (number_of xs) n) at h).0, b.0)
@@ -95,7 +96,7 @@ none-bad blank at xs h q b = b.1 h
 
 -- ---- all fields
 
-pub all-obey : (fs : List Field) (s : List ℕ) → first_bad_place fs s ≡ none → AllObey fs s
+pub all-obey : (fs : List Field) (s : List ℕ) → first_bad_place fs s ≡ None → AllObey fs s
 unfolding first_bad_place
 all-obey [] s h f m = absurd (List·Memᴰ·not-nil m)
 all-obey (g ∷ fs) s h f m =
@@ -105,11 +106,11 @@ all-obey (g ∷ fs) s h f m =
     (λ t. all-obey fs s b.1 f t)
     (List·Memᴰ·cases-cons m)
 
-pub no-bad-place : (fs : List Field) (s : List ℕ) → AllObey fs s → first_bad_place fs s ≡ none
+pub no-bad-place : (fs : List Field) (s : List ℕ) → AllObey fs s → first_bad_place fs s ≡ None
 unfolding first_bad_place
 no-bad-place [] s h = refl
 no-bad-place (g ∷ fs) s h =
-    ap (λ (o : Option ℕ). or_else o (first_bad_place fs s)) (clean g.rule g.at (part s g.at g.width) (h g (List·Memᴰ·head refl)))
+    ap (λ (o : Option ℕ). option_or o (first_bad_place fs s)) (clean g.rule g.at (part s g.at g.width) (h g (List·Memᴰ·head refl)))
     ∙ no-bad-place fs s (λ f m. h f (List·Memᴰ·tail m))
 
 -- the fields behind stand further on
@@ -121,11 +122,11 @@ behind (g ∷ fs) at size h f m =
     (λ t. omega (arith, behind fs (at + g.width) size (rest-unbroken g fs at size h) f t))
     (List·Memᴰ·cases-cons m)
 
-either : (x y : Option ℕ) {p : ℕ} → or_else x y ≡ some p → (x ≡ some p) ⊎ ((x ≡ none) × (y ≡ some p))
-either none y e = inr (refl, e)
-either (some at) y e = inl e
+either : (x y : Option ℕ) {p : ℕ} → option_or x y ≡ Some p → (x ≡ Some p) ⊎ ((x ≡ None) × (y ≡ Some p))
+either None y e = inr (refl, e)
+either (Some at) y e = inl e
 
-pub first-bad : (fs : List Field) (at size : ℕ) (s : List ℕ) (p : ℕ) → unbroken at size fs ≡ true → first_bad_place fs s ≡ some p → FirstBad fs s p
+pub first-bad : (fs : List Field) (at size : ℕ) (s : List ℕ) (p : ℕ) → unbroken at size fs ≡ true → first_bad_place fs s ≡ Some p → FirstBad fs s p
 unfolding first_bad_place
 first-bad [] at size s p u h = no_place h
 first-bad (g ∷ fs) at size s p u h =

@@ -1,7 +1,8 @@
 -- A reader's answers are given exactly when the paper says: 0 to the legal messages, 2 to those of another length or type, 3 to the rest, with
 -- the smallest offset of a bad byte.
 -- Assumes nothing.
-use Rattle.octets.proofs.Proving.{Bool, List, Option, ◌<◌, ◌∙◌, ◌≡◌, arith, eqb, eqb-false, eqb-true, false, get_or, length, ltb, none, refl, some, sym, true, ℕ, ⊎_elim}
+use Rattle.octets.proofs.Proving.{Bool, List, ◌<◌, ◌∙◌, ◌≡◌, arith, eqb, eqb-false, eqb-true, false, get_or, length, ltb, refl, sym, true, ℕ, ⊎_elim}
+use Rattle.std.specs.Prelude.{Option, None, Some}
 use Rattle.octets.specs.Choice.{◌⇒◌⨾◌}
 use Rattle.answers.specs.Answer.{Done, Malformed, BadField, NoRoom}
 use Rattle.octets.specs.Bytes.{part, number_of}
@@ -23,8 +24,8 @@ pub data Way (l : Layout) (s : List ℕ) : Type 0 where
 
 module _ (l : Layout) (s : List ℕ) where
   by_place : length s ≡ l.size → get_or s 0 0 ≡ l.code → (o : Option ℕ) → first_bad_place l.fields s ≡ o → Way l s
-  by_place e t none p = done (legal l s e t p) (record { long = e; typed = t; judged = all-obey l.fields s p })
-  by_place e t (some i) p = bad i (bad-field l s e t p) e t
+  by_place e t None p = done (legal l s e t p) (record { long = e; typed = t; judged = all-obey l.fields s p })
+  by_place e t (Some i) p = bad i (bad-field l s e t p) e t
 
   pub way : Way l s
   way =

@@ -1,10 +1,12 @@
 -- The laws of layouts, once over every list of fields: lengths, values that are spelled and read again, bytes that are read and spelled
 -- again. Assumes nothing.
-use Rattle.octets.proofs.Proving.{List, Option, [], ◌++◌, ◌+◌, ◌∙◌, ◌∷◌, ◌≡◌, ◌≤◌, ap, append_assoc, ap₂, arith, drop, drop_at, drop-cons, drop-drop, drop_of_length-le, eqb, eqb-true, get_or, length, length-append, none, refl, some, sym, take, take_all, take-append-drop, take_at, true, ℕ}
+use Rattle.std.specs.Option.{option_or}
+use Rattle.octets.proofs.Proving.{List, [], ◌++◌, ◌+◌, ◌∙◌, ◌∷◌, ◌≡◌, ◌≤◌, ap, append_assoc, ap₂, arith, drop, drop_at, drop-cons, drop-drop, drop_of_length-le, eqb, eqb-true, get_or, length, length-append, refl, sym, take, take_all, take-append-drop, take_at, true, ℕ}
+use Rattle.std.specs.Prelude.{Option, None, Some}
 use Rattle.octets.specs.Bytes.{part, number_of, digits}
 use Rattle.octets.proofs.Laws.{number_digits, length_digits, digits_number, length_part, part_bytes}
 use Rattle.octets.proofs.Below.{both}
-use Rattle.wire.specs.Layout.{Form, number, bytes, Field, Value, Values, FitsField, Fits, read_value, spell_value, read_fields, spell_fields, or_else, Layout, spell, unbroken, well_laid}
+use Rattle.wire.specs.Layout.{Form, number, bytes, Field, Value, Values, FitsField, Fits, read_value, spell_value, read_fields, spell_fields, Layout, spell, unbroken, well_laid}
 use Rattle.wire.specs.Legal.{Bytes}
 
 -- ---- what the computed conditions say
@@ -27,9 +29,9 @@ pub whole : (l : Layout) → well_laid l ≡ true → 1 ≤ l.size
 unfolding well_laid
 whole l h = inside l.fields 1 l.size h
 
-pub none_before : (x y : Option ℕ) → or_else x y ≡ none → (x ≡ none) × (y ≡ none)
-none_before none y e = (refl, e)
-none_before (some at) y e = let z : ◌≡◌ {A = ℕ} 0 1 = cc in absurd (omega arith)
+pub none_before : (x y : Option ℕ) → option_or x y ≡ None → (x ≡ None) × (y ≡ None)
+none_before None y e = (refl, e)
+none_before (Some at) y e = let z : ◌≡◌ {A = ℕ} 0 1 = cc in absurd (omega arith)
 
 -- ---- one field
 

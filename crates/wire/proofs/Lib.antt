@@ -18,3 +18,4 @@ pub mod RoundTrips
 pub mod Sendable
 pub mod Codec
 pub mod Unique
+pub mod Left

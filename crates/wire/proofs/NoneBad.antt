@@ -1,19 +1,21 @@
 -- When nothing of a field is bad, by its rule: tests that are computed, where the definition looks for the first bad place. Assumes nothing.
-use Rattle.octets.proofs.Proving.{Bool, List, Option, [], ◌&&◌, ◌+◌, ◌∙◌, ◌∷◌, ◌≡◌, ap, false, get_or, length, none, refl, some, sym, true, ℕ}
+use Rattle.std.specs.Option.{option_or}
+use Rattle.octets.proofs.Proving.{Bool, List, [], ◌&&◌, ◌+◌, ◌∙◌, ◌∷◌, ◌≡◌, ap, false, get_or, length, refl, sym, true, ℕ}
+use Rattle.std.specs.Prelude.{Option, None, Some}
 use Rattle.octets.specs.Choice.{pick, all_below}
 use Rattle.octets.proofs.Below.{all_first}
 use Rattle.wire.specs.Text.{token_byte}
-use Rattle.wire.specs.Layout.{bad_token_byte, unless, or_else, is_none}
+use Rattle.wire.specs.Layout.{bad_token_byte, unless, is_none}
 
-pub none-of-both : (a b : Option ℕ) → is_none (or_else a b) ≡ (is_none a && is_none b)
-none-of-both none b = refl
-none-of-both (some at) b = refl
+pub none-of-both : (a b : Option ℕ) → is_none (option_or a b) ≡ (is_none a && is_none b)
+none-of-both None b = refl
+none-of-both (Some at) b = refl
 
 pub none-unless : (ok : Bool) (at : ℕ) → is_none (unless ok at) ≡ ok
 none-unless true at = refl
 none-unless false at = refl
 
-none-picked : (ok : Bool) (a : Option ℕ) (at : ℕ) → is_none (pick ok a (some at)) ≡ (ok && is_none a)
+none-picked : (ok : Bool) (a : Option ℕ) (at : ℕ) → is_none (pick ok a (Some at)) ≡ (ok && is_none a)
 none-picked true a at = refl
 none-picked false a at = refl
 

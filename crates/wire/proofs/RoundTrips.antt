@@ -1,6 +1,7 @@
 -- The round trips, once over every layout: legal bytes that are read and written back, and values that are written and read back.
 -- Assumes nothing.
-use Rattle.octets.proofs.Proving.{List, Option, T, ◌++◌, ◌∙◌, ◌≡◌, ◌≤◌, ap, drop, eq-eqb, get_or, le-ltb, length, length-replicate, lit<, ltb, none, refl, some, take, take_at, true, ℕ}
+use Rattle.octets.proofs.Proving.{List, T, ◌++◌, ◌∙◌, ◌≡◌, ◌≤◌, ap, drop, eq-eqb, get_or, le-ltb, length, length-replicate, lit<, ltb, refl, take, take_at, true, ℕ}
+use Rattle.std.specs.Prelude.{Option, None, Some}
 use Rattle.octets.specs.Choice.{◌⇒◌⨾◌}
 use Rattle.octets.specs.Bytes.{zeros}
 use Rattle.answers.specs.Answer.{is_done, if_done}
@@ -27,8 +28,8 @@ module _ (l : Layout) (m buffer : List ℕ) (long : length m ≡ l.size) (typed 
   sent-legal e = rw (eq-eqb (length m) l.size long, eq-eqb (get_or m 0 0) l.code typed) (go (first_bad_place l.fields m) e)
     where
       go : (o : Option ℕ) → (bad_at o ⨾ ltb (length buffer) l.size ⇒ NoRoom ⨾ Done) ≡ Done → (bad_at o ⨾ Done) ≡ Done
-      go none e = refl
-      go (some at) e = e
+      go None e = refl
+      go (Some at) e = e
 
   pub legal-sent : read_answer l m ≡ Done → l.size ≤ length buffer → write_answer l m buffer ≡ Done
   unfolding write_answer

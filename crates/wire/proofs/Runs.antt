@@ -1,5 +1,5 @@
 -- A run of puts, a field each at its offset, spells the message: once over every layout. Assumes nothing.
-use Rattle.octets.proofs.Proving.{List, T, ◌++◌, ◌+◌, ◌<◌, ◌∙◌, ◌≡◌, ◌≤◌, ap, arith, length, lit<, ltb, sym, take, take_at, true, zero-add, ℕ}
+use Rattle.octets.proofs.Proving.{List, T, ◌++◌, ◌<◌, ◌∙◌, ◌≡◌, ◌≤◌, ap, arith, length, lit<, ltb, sym, take, take_at, true, zero-add, ℕ}
 use Rattle.answers.specs.Answer.{Answer}
 use Rattle.octets.specs.Bytes.{put, digits, zeros}
 use Rattle.octets.proofs.Laws.{length_digits, put-put, length-put, digits-byte, drop-zeros}

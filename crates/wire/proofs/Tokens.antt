@@ -1,5 +1,6 @@
 -- The first byte that no token holds, looked for from left to right: what one byte more does to the search. Assumes nothing.
-use Rattle.octets.proofs.Proving.{List, ◌+◌, ◌-◌, ◌<◌, ◌∙◌, ◌∷◌, ◌≡◌, ◌≤◌, add-one, ap, arith, drop-cons, false, get_or, length, none, some, suc, true, ℕ}
+use Rattle.octets.proofs.Proving.{List, ◌+◌, ◌-◌, ◌<◌, ◌∙◌, ◌∷◌, ◌≡◌, ◌≤◌, add-one, ap, arith, drop-cons, false, get_or, length, suc, true, ℕ}
+use Rattle.std.specs.Prelude.{None, Some}
 use Rattle.octets.specs.Bytes.{part}
 use Rattle.wire.specs.Text.{token_byte}
 use Rattle.wire.specs.Layout.{bad_token_byte}
@@ -17,12 +18,12 @@ module _ (s : List ℕ) (end i : ℕ) (h : i < end) (l : end ≤ length s) where
       let e : 1 + i ≡ i + 1 = omega arith in
       ap (bad_token_byte i) (left s end i h l) ∙ rw (t, e)
 
-  pub token-bad : token_byte (get_or s i 0) ≡ false → bad_token_byte i (part s i (end - i)) ≡ some i
+  pub token-bad : token_byte (get_or s i 0) ≡ false → bad_token_byte i (part s i (end - i)) ≡ Some i
   unfolding bad_token_byte
   token-bad t = ap (bad_token_byte i) (left s end i h l) ∙ rw t
 
 -- none is left
-pub token_end_lem : (s : List ℕ) (end i : ℕ) → end ≤ i → bad_token_byte i (part s i (end - i)) ≡ none
+pub token_end_lem : (s : List ℕ) (end i : ℕ) → end ≤ i → bad_token_byte i (part s i (end - i)) ≡ None
 unfolding bad_token_byte
 token_end_lem s end i h =
     let e : end - i ≡ 0 = omega arith in

@@ -1,5 +1,6 @@
 -- The place that an answer tells: with 3 the smallest offset of a bad byte, and 0 with every other answer; once over all fields. Assumes nothing.
-use Rattle.octets.proofs.Proving.{List, Option, ◌<◌, ◌≡◌, ◌⊎◌, ap, arith, inl, inr, none, refl, some, subst, true, ℕ}
+use Rattle.octets.proofs.Proving.{List, ◌<◌, ◌≡◌, ◌⊎◌, ap, arith, inl, inr, refl, subst, true, ℕ}
+use Rattle.std.specs.Prelude.{Option, None, Some}
 use Rattle.answers.specs.Answer.{answer_number, answer_place}
 use Rattle.answers.specs.Answer.{Answer}
 use Rattle.answers.specs.Answer.{BadField}
@@ -14,8 +15,8 @@ module _ (fs : List Field) (size : ℕ) (u : unbroken 1 size fs ≡ true) (s : L
   told-exactly at = go (first_bad_place fs s) refl
     where
       go : (o : Option ℕ) → first_bad_place fs s ≡ o → ((bad_at o ⨾ next) ≡ BadField at) exactly_when FirstBad fs s at
-      go none p = (λ e. absurd (other at e), λ b. absurd (none_first fs s (all-obey fs s p) b))
-      go (some i) p =
+      go None p = (λ e. absurd (other at e), λ b. absurd (none_first fs s (all-obey fs s p) b))
+      go (Some i) p =
           let b : FirstBad fs s i = first-bad fs 1 size s i u p in
           (λ e. subst (FirstBad fs s) (ap answer_place e) b, λ b'. ap BadField (one-first fs s b b'))
 

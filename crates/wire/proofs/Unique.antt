@@ -1,23 +1,15 @@
 -- Every promise settles its result: two results that a public function's contract allows are equal. Assumes nothing.
-use Rattle.octets.proofs.Proving.{List, ℕ}
-use contract.Lifetimes.{Lfts}
-use Rattle.octets.proofs.Settles.{Settles, Settled, SettledLent, SettledBoth, ◌and◌, ◌also◌, settled, lent, lent-first, settled-both, one-pair}
+use Rattle.std.proofs.Common.{ℕ, Fits, w64}
+use Rattle.octets.proofs.Settles.{Settled, SettledLent, SettledBoth, ◌and◌, ◌also◌, settled, lent, lent-first, settled-both}
 use Rattle.wire.proofs as wire
 
 pub judge-unique : Settled wire.judge.judge.Reads.Post and Settled wire.judge.is_framed.Reads.Post and Settled wire.judge.bad_inbound.Reads.Post
 judge-unique = (λ κs a. settled) also (λ κs a. settled) also (λ κs a. settled)
 
--- Of a part a program sees its bytes and the address at which they stand; the logic's own name for the loan it can't see.
-pub taken-unique : (κs : Lfts 1) (a : _) → Settles {X = List ℕ × (ℕ × ℕ)} (wire.frame.taken.Reads.Post κs a) (λ z e. (z.now, z.ref_ptr))
-taken-unique κs a z z' e e' p p' = one-pair p p'
-
-pub legal-or-zeros-unique : (κs : Lfts 1) (a : _) → Settles {X = List ℕ × (ℕ × ℕ)} (wire.frame.legal_or_zeros.Reads.Post κs a) (λ z e. (z.now, z.ref_ptr))
-legal-or-zeros-unique κs a z z' e e' p p' = one-pair (p.0, p.1.0) (p'.0, p'.1.0)
-
-pub send-unique : SettledBoth wire.frame.send.Reads.Post
+pub send-unique : SettledBoth wire.body.send.Reads.Post
 send-unique κs a = settled-both
 
-pub messages-unique : Settled wire.messages.size.Reads.Post and Settled wire.messages.first_byte.Reads.Post
+pub messages-unique : Settled wire.messages.Message.size.Reads.Post and Settled wire.messages.first_byte.Reads.Post
     and Settled wire.messages.message_length.Reads.Post
 messages-unique = (λ κs a. settled) also (λ κs a. settled) also (λ κs a. settled)
 
@@ -32,7 +24,7 @@ text-unique = (λ κs a. settled) also (λ κs a. settled)
 pub price-unique : Settled wire.price.Price.new.Reads.Post
 price-unique κs a = settled
 
-pub places-unique : Settled wire.places.earlier.Reads.Post and Settled wire.places.answer_for.Reads.Post
+pub places-unique : Settled wire.places.unless_bad.Reads.Post
     and Settled wire.places.bad_stamp.Reads.Post
     and Settled wire.places.bad_limit_price.Reads.Post and Settled wire.places.bad_nonzero.Reads.Post
     and Settled wire.places.bad_blank.Reads.Post and Settled wire.places.bad_token.Reads.Post
@@ -40,7 +32,7 @@ pub places-unique : Settled wire.places.earlier.Reads.Post and Settled wire.plac
     and Settled wire.places.bad_liquidity_flag.Reads.Post and Settled wire.places.bad_book_reason.Reads.Post
     and Settled wire.places.bad_system_event.Reads.Post and Settled wire.places.bad_stock_state.Reads.Post
 places-unique =
-    (λ κs a. settled) also (λ κs a. settled) also (λ κs a. settled) also (λ κs a. settled) also (λ κs a. settled) also (λ κs a. settled) also (λ κs a. settled) also (λ κs a. settled)
+    (λ κs a. settled) also (λ κs a. settled) also (λ κs a. settled) also (λ κs a. settled) also (λ κs a. settled) also (λ κs a. settled) also (λ κs a. settled)
     also (λ κs a. settled) also (λ κs a. settled) also (λ κs a. settled) also (λ κs a. settled) also (λ κs a. settled)
 
 pub shares-unique : Settled wire.shares.Total.is_below.Reads.Post and Settled wire.shares.Total.equals.Reads.Post
@@ -54,8 +46,6 @@ shares-unique =
 -- these answer nothing but for the first: what they leave is settled
 pub spelling-unique : Settled wire.spelling.started.Reads.Post and SettledLent wire.spelling.put_letter.Reads.Post
     and SettledLent wire.spelling.put_integer.Reads.Post and SettledLent wire.spelling.put_long.Reads.Post
-    and SettledLent wire.spelling.put_token.Reads.Post and SettledLent wire.spelling.put_stock.Reads.Post
-    and SettledLent wire.spelling.put_firm.Reads.Post
+    and ((N : ℕ) (fits : Fits w64 N) → SettledLent (wire.spelling.put_text.Reads.Post N fits))
 spelling-unique =
-    (λ κs a. settled) also (λ κs a. lent) also (λ κs a. lent) also (λ κs a. lent) also (λ κs a. lent-first) also (λ κs a. lent-first)
-    also (λ κs a. lent-first)
+    (λ κs a. settled) also (λ κs a. lent) also (λ κs a. lent) also (λ κs a. lent) also (λ N fits κs a. lent-first)

@@ -1,19 +1,15 @@
 -- What a reader and a writer answer, by what the code found on its way there. Assumes nothing.
-use Rattle.octets.proofs.Proving.{Bool, List, Option, ◌&&◌, ◌++◌, ◌∙◌, ◌≡◌, ◌≤◌, ap, ap₂, arith, drop, eq-eqb, eqb, eqb-true, false, false≢true, get_or, length, length-take-le, ltb, ltb-false, ne_eqb, none, not, refl, some, sym, take, true, zero-add, ℕ}
+use Rattle.octets.proofs.Proving.{Bool, List, ◌&&◌, ◌++◌, ◌∙◌, ◌≡◌, ◌≤◌, ap, ap₂, arith, drop, eq-eqb, eqb, eqb-true, false, false≢true, get_or, length, length-take-le, ltb, le-ltb, lt-ltb, ltb-false, ◌<◌, ne_eqb, not, refl, sym, take, true, zero-add, ℕ}
+use Rattle.std.specs.Prelude.{Option, None, Some, Err}
 use Rattle.octets.specs.Choice.{◌⇒◌⨾◌}
 use Rattle.octets.specs.Bytes.{put}
 use Rattle.octets.proofs.Below.{both}
 use Rattle.answers.specs.Answer.{is_done, if_done}
 use Rattle.answers.specs.Answer.{Answer}
+use Rattle.answers.specs.declared.Refusal.{Refusal}
 use Rattle.answers.specs.Answer.{Done, Malformed, BadField, NoRoom}
-use Rattle.answers.proofs.Laws.{is-done}
-use Rattle.wire.specs.Layout.{Layout, place, first_bad_place}
-use Rattle.wire.specs.Messages.{bad_at◌⨾◌, place_answer, framed, read_answer, write_answer, buffer_after}
-
--- a place answers as code hands it about
-pub told : (o : Option ℕ) (next : Answer) → (o ≡ some 0 → ⊥) → place_answer (place o) next ≡ (bad_at o ⨾ next)
-told none next h = refl
-told (some at) next h = let n = ne_eqb at 0 (λ e. h (rw e)) in rw n
+use Rattle.wire.specs.Layout.{Layout, first_bad_place}
+use Rattle.wire.specs.Messages.{bad_at◌⨾◌, framed, read_answer, write_answer, buffer_after}
 
 module _ (l : Layout) (s : List ℕ) where
   pub wrong-length : (length s ≡ l.size → ⊥) → read_answer l s ≡ Malformed
@@ -45,17 +41,20 @@ module _ (l : Layout) (s : List ℕ) where
   pub framed-long : framed l.size l.code s ≡ true → length s ≡ l.size
   framed-long h = eqb-true _ _ (both _ (eqb (get_or s 0 0) l.code) h).0
 
-  pub framed-judged : framed l.size l.code s ≡ true → (first_bad_place l.fields s ≡ some 0 → ⊥) → {found : ℕ} {answer : Answer}
-      → found ≡ place (first_bad_place l.fields s) → answer ≡ place_answer found Done → answer ≡ read_answer l s
-  framed-judged h behind f a =
-      a ∙ ap (λ (p : ℕ). place_answer p Done) f ∙ told (first_bad_place l.fields s) Done behind
-      ∙ sym (judged (framed-long h) (eqb-true _ _ (both (eqb (length s) l.size) _ h).1))
+  pub framed-judged : framed l.size l.code s ≡ true → {found : Option ℕ} {answer : Answer}
+      → found ≡ first_bad_place l.fields s → answer ≡ (bad_at found ⨾ Done) → answer ≡ read_answer l s
+  framed-judged h f a =
+      a ∙ ap (λ (o : Option ℕ). bad_at o ⨾ Done) f ∙ sym (judged (framed-long h) (eqb-true _ _ (both (eqb (length s) l.size) _ h).1))
 
-  pub bad-field : {at : ℕ} → length s ≡ l.size → get_or s 0 0 ≡ l.code → first_bad_place l.fields s ≡ some at → read_answer l s ≡ BadField at
+  pub bad-field : {at : ℕ} → length s ≡ l.size → get_or s 0 0 ≡ l.code → first_bad_place l.fields s ≡ Some at → read_answer l s ≡ BadField at
   bad-field e t p = judged e t ∙ ap (λ (o : Option ℕ). bad_at o ⨾ Done) p
 
-  pub legal : length s ≡ l.size → get_or s 0 0 ≡ l.code → first_bad_place l.fields s ≡ none → read_answer l s ≡ Done
+  pub legal : length s ≡ l.size → get_or s 0 0 ≡ l.code → first_bad_place l.fields s ≡ None → read_answer l s ≡ Done
   legal e t p = judged e t ∙ ap (λ (o : Option ℕ). bad_at o ⨾ Done) p
+
+-- what is refused is not done
+not-refused : {r : Refusal} → Err r ≡ Done → ⊥
+not-refused h = cc
 
 -- a done writer has room
 pub room : (l : Layout) (m buffer : List ℕ) → write_answer l m buffer ≡ Done → l.size ≤ length buffer
@@ -63,31 +62,44 @@ unfolding write_answer
 room l m buffer e = go (first_bad_place l.fields m) (ltb (length buffer) l.size) refl e
   where
     go : (o : Option ℕ) (b : Bool) → ltb (length buffer) l.size ≡ b → (bad_at o ⨾ b ⇒ NoRoom ⨾ Done) ≡ Done → l.size ≤ length buffer
-    go none false f e = ltb-false (length buffer) l.size f
-    go none true f e = let z : ◌≡◌ {A = ℕ} 0 1 = cc in absurd (omega arith)
-    go (some at) b f e = let z : ◌≡◌ {A = ℕ} 0 1 = cc in absurd (omega arith)
+    go None false f e = ltb-false (length buffer) l.size f
+    go None true f e = let z : ◌≡◌ {A = ℕ} 0 1 = cc in absurd (omega arith)
+    go (Some at) b f e = let z : ◌≡◌ {A = ℕ} 0 1 = cc in absurd (omega arith)
 
--- a writer of the first n bytes of what was spelled, n as the code has it, by what the code found and what it would answer then
-module _ (l : Layout) (spelled buffer : List ℕ) {n : ℕ} (e : n ≡ l.size) {found : ℕ} {next answer : Answer}
-    (f : found ≡ place (first_bad_place l.fields (take n spelled))) (g : next ≡ (ltb (length buffer) l.size ⇒ NoRoom ⨾ Done))
-    (h : answer ≡ place_answer found next) (behind : first_bad_place l.fields (take l.size spelled) ≡ some 0 → ⊥) where
-  pub answers : answer ≡ write_answer l (take l.size spelled) buffer
-  unfolding write_answer
-  answers = rw (h, f, g, e) (told (first_bad_place l.fields (take l.size spelled)) (ltb (length buffer) l.size ⇒ NoRoom ⨾ Done) behind)
+-- a writer of the first n bytes of what was spelled, n as the code has it, by what the code found
+module _ (l : Layout) (spelled buffer : List ℕ) {n : ℕ} (e : n ≡ l.size) {found : Option ℕ}
+    (f : found ≡ first_bad_place l.fields (take n spelled)) where
+  there : found ≡ first_bad_place l.fields (take l.size spelled)
+  there = rw e at f
 
-  pub roomy : is_done answer ≡ true → l.size ≤ length buffer
-  roomy d = room l (take l.size spelled) buffer (sym answers ∙ is-done answer d)
+  pub bad-sent : {answer : Answer} {r : Refusal} → answer ≡ (bad_at found ⨾ Done) → answer ≡ Err r
+      → (Err r ≡ write_answer l (take l.size spelled) buffer) × (buffer ≡ buffer_after l (take l.size spelled) buffer)
+  unfolding write_answer buffer_after if_done is_done
+  bad-sent {answer} {r} a d = go found there (sym d ∙ a)
+    where
+      go : (o : Option ℕ) → o ≡ first_bad_place l.fields (take l.size spelled) → Err r ≡ (bad_at o ⨾ Done)
+          → (Err r ≡ write_answer l (take l.size spelled) buffer) × (buffer ≡ buffer_after l (take l.size spelled) buffer)
+      go None h k = absurd (not-refused k)
+      go (Some at) h k = rw (← h) (k, refl)
 
-  pub not-sent : is_done answer ≡ false
-      → (answer ≡ write_answer l (take l.size spelled) buffer) × (buffer ≡ buffer_after l (take l.size spelled) buffer)
-  unfolding buffer_after if_done
-  not-sent d = (answers, rw (← answers, d))
+  fine : {answer : Answer} → answer ≡ (bad_at found ⨾ Done) → answer ≡ Done → None ≡ first_bad_place l.fields (take l.size spelled)
+  fine {answer} a d = go found there (sym d ∙ a)
+    where
+      go : (o : Option ℕ) → o ≡ first_bad_place l.fields (take l.size spelled) → Done ≡ (bad_at o ⨾ Done) → None ≡ first_bad_place l.fields (take l.size spelled)
+      go None h k = h
+      go (Some at) h k = absurd (not-refused (sym k))
 
-  pub sent : is_done answer ≡ true → l.size ≤ length spelled → {exit : List ℕ} → exit ≡ put buffer 0 (take n spelled)
-      → (answer ≡ write_answer l (take l.size spelled) buffer) × (exit ≡ buffer_after l (take l.size spelled) buffer)
-  unfolding buffer_after if_done
-  sent d whole {exit} x =
+  pub short-sent : {answer : Answer} → answer ≡ (bad_at found ⨾ Done) → answer ≡ Done → length buffer < n
+      → (NoRoom ≡ write_answer l (take l.size spelled) buffer) × (buffer ≡ buffer_after l (take l.size spelled) buffer)
+  unfolding write_answer buffer_after if_done is_done
+  short-sent a d h = rw (← fine a d, lt-ltb (length buffer) l.size (omega (arith, e, h))) (refl, refl)
+
+  pub sent : {answer : Answer} → answer ≡ (bad_at found ⨾ Done) → answer ≡ Done → n ≤ length buffer → l.size ≤ length spelled
+      → {exit : List ℕ} → exit ≡ put buffer 0 (take n spelled)
+      → (Done ≡ write_answer l (take l.size spelled) buffer) × (exit ≡ buffer_after l (take l.size spelled) buffer)
+  unfolding write_answer buffer_after if_done is_done
+  sent a d h whole {exit} x =
       let long : length (take l.size spelled) ≡ l.size = length-take-le l.size spelled whole in
       let y : exit ≡ take l.size spelled ++ drop l.size buffer =
       x ∙ ap (λ (m : ℕ). put buffer 0 (take m spelled)) e ∙ rw (zero-add, long) in
-      (answers, y ∙ rw (← answers, d))
+      rw (← fine a d, le-ltb (length buffer) l.size (omega (arith, e, h))) (refl, y)

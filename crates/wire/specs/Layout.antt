@@ -1,8 +1,8 @@
 -- What bytes are made of: a list of fields, each with its offset, its width and what is judged of it. One description serves messages,
 -- entries, the header and the records.
-use Rattle.std.specs.Prelude.{◌≡◌, ℕ, ◌+◌, ◌^◌, ◌<◌, Bool, true, false, ◌&&◌, List, [], ◌∷◌, ◌++◌, leb, ltb, eqb, length}
+use Rattle.std.specs.Option.{option_or}
+use Rattle.std.specs.Prelude.{◌≡◌, ℕ, ◌+◌, ◌^◌, ◌<◌, Bool, true, false, ◌&&◌, List, [], ◌∷◌, ◌++◌, leb, ltb, eqb, length, Option, None, Some}
 use Prim.Native.String.{String}
-use Rattle.std.proofs.Math.Option.{Option, none, some}
 use Rattle.octets.specs.Choice.{pick, among}
 use Rattle.wire.specs.Letters.{space, sides, sweeps, liquidity_flags, book_reasons, system_events, stock_states}
 use Rattle.wire.specs.Limits.{stamp_end, token_size, lowest_price, highest_price}
@@ -169,41 +169,29 @@ laid fs = one_by_one fs (spell_fields fs)
 
 -- where the first byte stands, from `at` on, that no token holds
 unfoldable pub bad_token_byte : ℕ → List ℕ → Option ℕ
-bad_token_byte at [] = none
-bad_token_byte at (b ∷ bs) = pick (token_byte b) (bad_token_byte (1 + at) bs) (some at)
+bad_token_byte at [] = None
+bad_token_byte at (b ∷ bs) = pick (token_byte b) (bad_token_byte (1 + at) bs) (Some at)
 
 abbrev pub unless : Bool → ℕ → Option ℕ
-unless ok at = pick ok none (some at)
+unless ok at = pick ok None (Some at)
 
 -- of a field at `at` with the bytes xs
 unfoldable pub bad_place : Rule → ℕ → List ℕ → Option ℕ
-bad_place free at xs = none
+bad_place free at xs = None
 bad_place (below n) at xs = unless (ltb (number_of xs) n) at
 bad_place (between low high) at xs = unless (leb low (number_of xs) && leb (number_of xs) high) at
 bad_place (one_of letters) at xs = unless (among letters (number_of xs)) at
 bad_place legal_token at xs = bad_token_byte at xs
 bad_place blank at xs = unless (all_are space xs) at
 
-abbrev pub or_else : Option ℕ → Option ℕ → Option ℕ
-or_else none b = b
-or_else (some at) b = some at
-
 -- of the fields, in their order
 unfoldable pub first_bad_place : List Field → List ℕ → Option ℕ
-first_bad_place [] s = none
-first_bad_place (f ∷ fs) s = or_else (bad_place f.rule f.at (part s f.at f.width)) (first_bad_place fs s)
+first_bad_place [] s = None
+first_bad_place (f ∷ fs) s = option_or (bad_place f.rule f.at (part s f.at f.width)) (first_bad_place fs s)
 
 abbrev pub is_none : Option ℕ → Bool
-is_none none = true
-is_none (some at) = false
-
--- the same as code hands it about: no judged field lies at 0, so 0 says that nothing is bad
-abbrev pub place : Option ℕ → ℕ
-place none = 0
-place (some at) = at
-
-abbrev pub earlier_of : ℕ → ℕ → ℕ
-earlier_of a b = pick (eqb a 0) b a
+is_none None = true
+is_none (Some at) = false
 
 unfoldable pub no_bad_place : List Field → List ℕ → Bool
 no_bad_place fs s = is_none (first_bad_place fs s)
@@ -217,8 +205,8 @@ pub record Layout : Type 0 where
 
 -- the first of the layouts with this first byte
 unfoldable pub layout_for : List Layout → ℕ → Option Layout
-layout_for [] code = none
-layout_for (l ∷ ls) code = pick (eqb l.code code) (some l) (layout_for ls code)
+layout_for [] code = None
+layout_for (l ∷ ls) code = pick (eqb l.code code) (Some l) (layout_for ls code)
 
 -- the bytes of a layout with these values
 unfoldable pub spell : (l : Layout) → Values l.fields → List ℕ

@@ -1,13 +1,15 @@
 -- The sixteen messages of document 004, a table each: the type's letter, the length, and a line for each field with its offset. Which fields
 -- are judged is the paper's (Messages and entries): tokens and stamps everywhere, side and sweep letters inbound.
 use Prim.Native.Char.{code}
-use Rattle.std.specs.Prelude.{Bool, not, ◌&&◌, List, [], ◌∷◌, ◌++◌, map, ℕ, ◌-◌, length, get_or, drop, ltb, eqb}
-use Rattle.std.proofs.Math.Option.{Option, none, some}
+use Rattle.std.specs.Prelude.{Bool, not, ◌&&◌, List, [], ◌∷◌, ◌++◌, map, ℕ, ◌-◌, length, get_or, drop, ltb, eqb, Option, None, Some}
 use Rattle.octets.specs.Choice.{pick, first_of◌, ◌⇒◌⨾◌}
 use Rattle.answers.specs.Answer.{if_done}
 use Rattle.answers.specs.Answer.{Answer}
 use Rattle.answers.specs.Answer.{Done, Malformed, BadField, NoRoom}
 use Rattle.octets.specs.Bytes.{zeros}
+pub use Rattle.wire.specs.declared.messages.Message.{Message}
+use Rattle.wire.specs.declared.messages.Message.TheVariants as message
+pub use Rattle.wire.specs.declared.body.Reading.{Reading}
 use Rattle.wire.specs.Limits.{longest_message}
 use Rattle.wire.specs.Layout.{Layout, Field, stamp_at, token_at, side_at, sweep_at, letter_at, whole_at, text_at, first_bad_place, layout_for, shifted}
 
@@ -262,13 +264,32 @@ no_message = record { code = 0; size = 0; fields = [] }
 abbrev pub message_layout : ℕ → Layout
 message_layout k = get_or messages k no_message
 
+-- .. and by its name, as code has it
+abbrev pub number : Message → ℕ
+number message.EnterOrder = 0
+number message.ReplaceOrder = 1
+number message.CancelOrder = 2
+number message.ModifyOrder = 3
+number message.SystemEvent = 4
+number message.Accepted = 5
+number message.Replaced = 6
+number message.Canceled = 7
+number message.AiqCancelled = 8
+number message.Executed = 9
+number message.BrokenTrade = 10
+number message.Rejected = 11
+number message.CancelPending = 12
+number message.CancelReject = 13
+number message.PriorityUpdate = 14
+number message.Modified = 15
+
 -- its fields where it stands so many bytes further on
 abbrev pub fields_from : ℕ → ℕ → List Field
 fields_from from k = map (shifted from) (message_layout k).fields
 
 abbrev pub size_or0 : Option Layout → ℕ
-size_or0 none = 0
-size_or0 (some l) = l.size
+size_or0 None = 0
+size_or0 (Some l) = l.size
 
 -- the length of the message among these with this type, 0 where there is none
 unfoldable pub length_for : List Layout → ℕ → ℕ
@@ -282,12 +303,8 @@ message_length is_inbound letter = length_for (pick is_inbound inbound outbound)
 -- Ask 1: where there is a first bad place the answer is 3 and tells it; where there is none, what is asked next is answered
 infixr 10 bad_at◌⨾◌
 abbrev pub bad_at◌⨾◌ : Option ℕ → Answer → Answer
-bad_at none ⨾ next = next
-bad_at (some at) ⨾ next = BadField at
-
--- the same of a place as code hands it about
-abbrev pub place_answer : ℕ → Answer → Answer
-place_answer at next = pick (eqb at 0) next (BadField at)
+bad_at None ⨾ next = next
+bad_at (Some at) ⨾ next = BadField at
 
 -- length and type are right
 abbrev pub framed : ℕ → ℕ → List ℕ → Bool
@@ -305,6 +322,10 @@ read_answer l s =
 -- the bytes that a reader takes its fields from: a refused reader's fields are all zero
 unfoldable pub legal_or_zeros : Layout → List ℕ → List ℕ
 legal_or_zeros l s = if_done (read_answer l s) s (zeros l.size)
+
+-- what the reader of a message gives, whose fields are those that `of` takes from its bytes
+abbrev pub read_as : {M : Type 0} → Layout → (List ℕ → M) → List ℕ → Reading M
+read_as l of s = record { answer = read_answer l s; body = of (legal_or_zeros l s) }
 
 -- a message at the front of as many bytes as the longest has, with zeros behind it
 unfoldable pub in_eighty : List ℕ → List ℕ

@@ -1,7 +1,7 @@
 // What messages are made of: tokens, stamps, letters, prices, the two kinds of share number, and layouts.
 #![tactic(auto)]
 
-pub mod frame;
+pub mod body;
 pub mod judge;
 pub mod letters;
 pub mod messages;

@@ -1,73 +1,85 @@
-// The sixteen messages by number, inbound first: their lengths and types as constant tables.
-ghost use Rattle.std.specs.Prelude.{◌≡◌, ◌<◌, ◌≤◌, get_or, take, drop};
-ghost use Rattle.wire.specs.Messages.{message_layout, messages, length_for, message_length};
+// The sixteen messages, inbound first: their lengths and types, and which of them a type names.
+ghost use Rattle.std.specs.Prelude.{◌≡◌, get_or};
+ghost use Rattle.wire.specs.Messages.{message_layout, number, inbound, outbound, length_for, message_length};
 
-pub const ENTER_ORDER: usize = 0;
-
-pub const REPLACE_ORDER: usize = 1;
-
-pub const CANCEL_ORDER: usize = 2;
-
-pub const MODIFY_ORDER: usize = 3;
-
-pub const SYSTEM_EVENT: usize = 4;
-
-pub const ACCEPTED: usize = 5;
-
-pub const REPLACED: usize = 6;
-
-pub const CANCELED: usize = 7;
-
-pub const AIQ_CANCELLED: usize = 8;
-
-pub const EXECUTED: usize = 9;
-
-pub const BROKEN_TRADE: usize = 10;
-
-pub const REJECTED: usize = 11;
-
-pub const CANCEL_PENDING: usize = 12;
-
-pub const CANCEL_REJECT: usize = 13;
-
-pub const PRIORITY_UPDATE: usize = 14;
-
-pub const MODIFIED: usize = 15;
-
-// How many there are.
-pub(crate) const MESSAGES: usize = 16;
-
-// O U X M, then S A U C D E B J P I T M. Bytes, because a table is copied where it is indexed.
-const LENGTHS: [u8; 16] = [
-    48, 47, 19, 20, 10, 66, 80, 28, 37, 40, 32, 24, 23, 23, 36, 28,
-];
-
-const TYPES: [u8; 16] = [
-    b'O', b'U', b'X', b'M', b'S', b'A', b'U', b'C', b'D', b'E', b'B', b'J', b'P', b'I', b'T', b'M',
-];
-
-// The length that message k's layout says. No message has a number from 16 on.
-pub fn size(k: usize) -> usize
-    ensures { result ≡ (message_layout k).size }
-{
-    if k < MESSAGES { LENGTHS[k] as usize } else { 0 }
+#[derive(Clone, Copy, PartialEq, Eq)]
+pub enum Message {
+    EnterOrder,
+    ReplaceOrder,
+    CancelOrder,
+    ModifyOrder,
+    SystemEvent,
+    Accepted,
+    Replaced,
+    Canceled,
+    AiqCancelled,
+    Executed,
+    BrokenTrade,
+    Rejected,
+    CancelPending,
+    CancelReject,
+    PriorityUpdate,
+    Modified,
 }
 
-// The type that its layout says.
-pub(crate) fn letter_of(k: usize) -> u8
-    ensures { result ≡ (message_layout k).code }
-{
-    if k < MESSAGES { TYPES[k] } else { 0 }
+impl Message {
+    // The length that its layout says.
+    pub fn size(self) -> usize
+        ensures { result ≡ (message_layout (number self)).size }
+    {
+        match self {
+            Message::EnterOrder => 48,
+            Message::ReplaceOrder => 47,
+            Message::CancelOrder => 19,
+            Message::ModifyOrder => 20,
+            Message::SystemEvent => 10,
+            Message::Accepted => 66,
+            Message::Replaced => 80,
+            Message::Canceled => 28,
+            Message::AiqCancelled => 37,
+            Message::Executed => 40,
+            Message::BrokenTrade => 32,
+            Message::Rejected => 24,
+            Message::CancelPending => 23,
+            Message::CancelReject => 23,
+            Message::PriorityUpdate => 36,
+            Message::Modified => 28,
+        }
+    }
+
+    // The type that its layout says.
+    pub(crate) fn letter(self) -> u8
+        ensures { result ≡ (message_layout (number self)).code }
+    {
+        match self {
+            Message::EnterOrder => b'O',
+            Message::ReplaceOrder => b'U',
+            Message::CancelOrder => b'X',
+            Message::ModifyOrder => b'M',
+            Message::SystemEvent => b'S',
+            Message::Accepted => b'A',
+            Message::Replaced => b'U',
+            Message::Canceled => b'C',
+            Message::AiqCancelled => b'D',
+            Message::Executed => b'E',
+            Message::BrokenTrade => b'B',
+            Message::Rejected => b'J',
+            Message::CancelPending => b'P',
+            Message::CancelReject => b'I',
+            Message::PriorityUpdate => b'T',
+            Message::Modified => b'M',
+        }
+    }
 }
 
 // The type of what came in is its first byte: 0, which is no type, where there is none.
 pub fn first_byte(s: &[u8]) -> u8
     ensures { result ≡ get_or s.now 0 0 }
 {
-    if s.len() == 0 {
-        return 0;
+    match s {
+        [first, ..] => *first,
+        [] => 0,
     }
-    s[0]
 }
 
 // The length of the message with this type, 0 where there is none. U and M are inbound or outbound, as the caller says.
@@ -75,22 +87,39 @@ pub fn message_length(inbound: bool, letter: u8) -> usize
     ensures { result ≡ message_length inbound letter }
 {
     if inbound {
-        return length_among(0, SYSTEM_EVENT, letter);
+        return length_from_client(letter);
     }
-    length_among(SYSTEM_EVENT, MESSAGES, letter)
+    length_from_host(letter)
 }
 
-// The same among the messages from number `from` on and before number `to`.
-fn length_among(from: usize, to: usize, letter: u8) -> usize
-    requires { to ≤ 16 }
-    ensures { result ≡ length_for (drop from (take to messages)) letter }
+fn length_from_client(letter: u8) -> usize
+    ensures { result ≡ length_for inbound letter }
 {
-    let mut k = from;
-    while k < to {
-        if letter_of(k) == letter {
-            return size(k);
-        }
-        k += 1;
+    match letter {
+        b'O' => Message::EnterOrder.size(),
+        b'U' => Message::ReplaceOrder.size(),
+        b'X' => Message::CancelOrder.size(),
+        b'M' => Message::ModifyOrder.size(),
+        _ => 0,
     }
-    0
+}
+
+fn length_from_host(letter: u8) -> usize
+    ensures { result ≡ length_for outbound letter }
+{
+    match letter {
+        b'S' => Message::SystemEvent.size(),
+        b'A' => Message::Accepted.size(),
+        b'U' => Message::Replaced.size(),
+        b'C' => Message::Canceled.size(),
+        b'D' => Message::AiqCancelled.size(),
+        b'E' => Message::Executed.size(),
+        b'B' => Message::BrokenTrade.size(),
+        b'J' => Message::Rejected.size(),
+        b'P' => Message::CancelPending.size(),
+        b'I' => Message::CancelReject.size(),
+        b'T' => Message::PriorityUpdate.size(),
+        b'M' => Message::Modified.size(),
+        _ => 0,
+    }
 }

@@ -4,8 +4,9 @@ ghost use Rattle.std.specs.Prelude.{◌≡◌, ◌+◌, ◌<◌, ◌≤◌, leng
 ghost use Rattle.octets.specs.Bytes.{part};
 ghost use Rattle.wire.specs.Letters.{sides, sweeps, liquidity_flags, book_reasons, system_events, stock_states};
 ghost use Rattle.wire.specs.Limits.{stamp_end, lowest_price, highest_price};
-ghost use Rattle.wire.specs.Messages.{place_answer};
-ghost use Rattle.wire.specs.Layout.{place, earlier_of, unless, bad_place, below, between, one_of, legal_token, blank};
+ghost use Rattle.answers.specs.Answer.{Done};
+ghost use Rattle.wire.specs.Messages.{bad_at◌⨾◌};
+ghost use Rattle.wire.specs.Layout.{unless, bad_place, below, between, one_of, legal_token, blank};
 
 use crate::letters::{
     is_book_reason, is_liquidity_flag, is_side, is_stock_state, is_sweep, is_system_event,
@@ -14,128 +15,108 @@ use crate::price::Price;
 use crate::text::is_token_byte;
 use answers::{Answer, Refusal};
 
-// A place is an offset. No judged field lies at 0, so 0 says that nothing is bad; as a number it stays in a register.
-pub const NOWHERE: usize = 0;
-
 // The nanoseconds of a day.
 pub const STAMP_END: u64 = 86_400_000_000_000;
 
-// Of two places the first, where the fields that they are of stand in this order.
-pub fn earlier(a: usize, b: usize) -> usize
-    ensures { result ≡ earlier_of a b }
+// What a first bad place answers; where nothing is bad, that is fine.
+pub fn unless_bad(bad: Option<usize>) -> Answer
+    ensures { result ≡ (bad_at bad ⨾ Done) }
 {
-    if a == NOWHERE {
-        return b;
+    match bad {
+        Some(at) => Err(Refusal::BadField(at)),
+        None => Ok(()),
     }
-    a
-}
-
-// What a first bad place answers, and where there is none, what is asked next.
-pub fn answer_for(bad: usize, next: Answer) -> Answer
-    ensures { result ≡ place_answer bad next }
-{
-    if bad == NOWHERE {
-        return next;
-    }
-    Err(Refusal::BadField(bad))
 }
 
 // A field that is judged as a whole is bad from its first byte on.
-fn bad_unless(ok: bool, at: usize) -> usize
-    ensures { result ≡ place (unless ok at) }
+fn unless(ok: bool, at: usize) -> Option<usize>
+    ensures { result ≡ unless ok at }
 {
-    if ok {
-        return NOWHERE;
-    }
-    at
+    if ok { None } else { Some(at) }
 }
 
-pub fn bad_stamp(s: &[u8], at: usize) -> usize
+pub fn bad_stamp(s: &[u8], at: usize) -> Option<usize>
     requires { at + 8 ≤ length s.now }
-    ensures { result ≡ place (bad_place (below stamp_end) at (part s.now at 8)) }
+    ensures { result ≡ bad_place (below stamp_end) at (part s.now at 8) }
 {
-    bad_unless(octets::be64(s, at) < STAMP_END, at)
+    unless(octets::be64(s, at) < STAMP_END, at)
 }
 
-pub fn bad_limit_price(s: &[u8], at: usize) -> usize
+pub fn bad_limit_price(s: &[u8], at: usize) -> Option<usize>
     requires { at + 4 ≤ length s.now }
-    ensures { result ≡ place (bad_place (between lowest_price highest_price) at (part s.now at 4)) }
+    ensures { result ≡ bad_place (between lowest_price highest_price) at (part s.now at 4) }
 {
     let price = octets::be32(s, at);
-    bad_unless((Price::LOWEST <= price) & (price <= Price::HIGHEST), at)
+    unless((Price::LOWEST <= price) & (price <= Price::HIGHEST), at)
 }
 
 // A number of two bytes that is to be 0.
-pub fn bad_nonzero(s: &[u8], at: usize) -> usize
+pub fn bad_nonzero(s: &[u8], at: usize) -> Option<usize>
     requires { at + 2 ≤ length s.now }
-    ensures { result ≡ place (bad_place (between 0 0) at (part s.now at 2)) }
+    ensures { result ≡ bad_place (between 0 0) at (part s.now at 2) }
 {
-    bad_unless(octets::be16(s, at) == 0, at)
+    unless(octets::be16(s, at) == 0, at)
 }
 
 // A text of n bytes that is to be blank. It is judged as a whole: which of its bytes says something says nothing.
-pub fn bad_blank(s: &[u8], at: usize, n: usize) -> usize
+pub fn bad_blank(s: &[u8], at: usize, n: usize) -> Option<usize>
     requires { at + n ≤ length s.now }
-    ensures { result ≡ place (bad_place blank at (part s.now at n)) }
+    ensures { result ≡ bad_place blank at (part s.now at n) }
 {
-    bad_unless(octets::are_all(s, at, n, b' '), at)
+    unless(octets::are_all(s, at, n, b' '), at)
 }
 
 // The fourteen bytes are looked at one by one, so the place is that of the first byte that no token holds.
-pub fn bad_token(s: &[u8], at: usize) -> usize
+pub fn bad_token(s: &[u8], at: usize) -> Option<usize>
     requires { at + 14 ≤ length s.now }
-    ensures { result ≡ place (bad_place legal_token at (part s.now at 14)) }
+    ensures { result ≡ bad_place legal_token at (part s.now at 14) }
 {
-    let end = at + 14;
-    let mut i = at;
-    while i < end {
-        if is_token_byte(s[i]) {
-            i += 1;
-        } else {
-            return i;
+    for i in at..at + 14 {
+        if !is_token_byte(s[i]) {
+            return Some(i);
         }
     }
-    NOWHERE
+    None
 }
 
-pub fn bad_side(s: &[u8], at: usize) -> usize
+pub fn bad_side(s: &[u8], at: usize) -> Option<usize>
     requires { at < length s.now }
-    ensures { result ≡ place (bad_place (one_of sides) at (part s.now at 1)) }
+    ensures { result ≡ bad_place (one_of sides) at (part s.now at 1) }
 {
-    bad_unless(is_side(octets::byte_at(s, at)), at)
+    unless(is_side(octets::byte_at(s, at)), at)
 }
 
-pub fn bad_sweep(s: &[u8], at: usize) -> usize
+pub fn bad_sweep(s: &[u8], at: usize) -> Option<usize>
     requires { at < length s.now }
-    ensures { result ≡ place (bad_place (one_of sweeps) at (part s.now at 1)) }
+    ensures { result ≡ bad_place (one_of sweeps) at (part s.now at 1) }
 {
-    bad_unless(is_sweep(octets::byte_at(s, at)), at)
+    unless(is_sweep(octets::byte_at(s, at)), at)
 }
 
-pub fn bad_liquidity_flag(s: &[u8], at: usize) -> usize
+pub fn bad_liquidity_flag(s: &[u8], at: usize) -> Option<usize>
     requires { at < length s.now }
-    ensures { result ≡ place (bad_place (one_of liquidity_flags) at (part s.now at 1)) }
+    ensures { result ≡ bad_place (one_of liquidity_flags) at (part s.now at 1) }
 {
-    bad_unless(is_liquidity_flag(octets::byte_at(s, at)), at)
+    unless(is_liquidity_flag(octets::byte_at(s, at)), at)
 }
 
-pub fn bad_book_reason(s: &[u8], at: usize) -> usize
+pub fn bad_book_reason(s: &[u8], at: usize) -> Option<usize>
     requires { at < length s.now }
-    ensures { result ≡ place (bad_place (one_of book_reasons) at (part s.now at 1)) }
+    ensures { result ≡ bad_place (one_of book_reasons) at (part s.now at 1) }
 {
-    bad_unless(is_book_reason(octets::byte_at(s, at)), at)
+    unless(is_book_reason(octets::byte_at(s, at)), at)
 }
 
-pub fn bad_system_event(s: &[u8], at: usize) -> usize
+pub fn bad_system_event(s: &[u8], at: usize) -> Option<usize>
     requires { at < length s.now }
-    ensures { result ≡ place (bad_place (one_of system_events) at (part s.now at 1)) }
+    ensures { result ≡ bad_place (one_of system_events) at (part s.now at 1) }
 {
-    bad_unless(is_system_event(octets::byte_at(s, at)), at)
+    unless(is_system_event(octets::byte_at(s, at)), at)
 }
 
-pub fn bad_stock_state(s: &[u8], at: usize) -> usize
+pub fn bad_stock_state(s: &[u8], at: usize) -> Option<usize>
     requires { at < length s.now }
-    ensures { result ≡ place (bad_place (one_of stock_states) at (part s.now at 1)) }
+    ensures { result ≡ bad_place (one_of stock_states) at (part s.now at 1) }
 {
-    bad_unless(is_stock_state(octets::byte_at(s, at)), at)
+    unless(is_stock_state(octets::byte_at(s, at)), at)
 }

@@ -4,15 +4,8 @@ ghost use Rattle.wire.specs.Price.{priced_of};
 
 use crate::letters::is_opening_or_closing;
 
-#[derive(Clone, Copy)]
+#[derive(Clone, Copy, PartialEq, Eq)]
 pub struct Price(pub u32);
-
-// What making a price comes to.
-#[derive(Clone, Copy)]
-pub enum Priced {
-    Good(Price),
-    Bad,
-}
 
 impl Price {
     pub const LOWEST: u32 = 1;
@@ -22,14 +15,14 @@ impl Price {
     pub const MARKET: u32 = 2_147_483_647;
 
     // A limit price, or the market price where the order is for the opening or the closing cross.
-    pub fn new(price: u32, cross: u8) -> Priced
+    pub fn new(price: u32, cross: u8) -> Option<Price>
         ensures { result ≡ priced_of price cross }
     {
         let limit = (Price::LOWEST <= price) & (price <= Price::HIGHEST);
         let market = (price == Price::MARKET) & is_opening_or_closing(cross);
         if limit | market {
-            return Priced::Good(Price(price));
+            return Some(Price(price));
         }
-        Priced::Bad
+        None
     }
 }

@@ -33,24 +33,10 @@ pub fn put_long(t: &mut [u8; 80], at: usize, v: u64)
     octets::put_be64(t, at, v)
 }
 
-// What is put is as long as its type says: a caller needs that of a text that it holds in a struct.
-pub fn put_token(t: &mut [u8; 80], at: usize, v: [u8; 14])
-    requires { at + 14 ≤ 80 }
-    ensures { (t.new ≡ put t.old at v) × (length v ≡ 14) }
-{
-    octets::put_bytes(t, at, &v)
-}
-
-pub fn put_stock(t: &mut [u8; 80], at: usize, v: [u8; 8])
-    requires { at + 8 ≤ 80 }
-    ensures { (t.new ≡ put t.old at v) × (length v ≡ 8) }
-{
-    octets::put_bytes(t, at, &v)
-}
-
-pub fn put_firm(t: &mut [u8; 80], at: usize, v: [u8; 4])
-    requires { at + 4 ≤ 80 }
-    ensures { (t.new ≡ put t.old at v) × (length v ≡ 4) }
+// A token, a stock or a firm. What is put is as long as its type says: a caller needs that of a text that it holds in a struct.
+pub fn put_text<const N: usize>(t: &mut [u8; 80], at: usize, v: [u8; N])
+    requires { at + N ≤ 80 }
+    ensures { (t.new ≡ put t.old at v.entry) × (length v.entry ≡ N) }
 {
     octets::put_bytes(t, at, &v)
 }

@@ -4,4 +4,4 @@ use Rattle.wire.proofs.places.bad_blank.Goals as goal
 
 pub returns : goal.returns
 unfolding bad_place
-returns c = rw (c.bad_unless.ensures, c.are_all.ensures)
+returns c = rw (c.unless.ensures, c.are_all.ensures)

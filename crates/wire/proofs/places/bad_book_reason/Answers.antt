@@ -4,4 +4,4 @@ use Rattle.wire.proofs.places.bad_book_reason.Goals as goal
 
 pub returns : goal.returns
 unfolding bad_place
-returns c = rw (c.bad_unless.ensures, c.is_book_reason.ensures, c.byte_at.ensures)
+returns c = rw (c.unless.ensures, c.is_book_reason.ensures, c.byte_at.ensures)

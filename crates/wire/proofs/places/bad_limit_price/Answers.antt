@@ -4,4 +4,4 @@ use Rattle.wire.proofs.places.bad_limit_price.Goals as goal
 
 pub returns : goal.returns
 unfolding bad_place
-returns c = rw (c.bad_unless.ensures, c.be32-price.ensures)
+returns c = rw (c.unless.ensures, c.be32-price.ensures)

@@ -12,4 +12,4 @@ pub returns : goal.returns
 unfolding bad_place
 returns c =
     let a = c.args in
-    rw (c.bad_unless.ensures, c.be16.ensures, only_zero (whole_at a.s.now a.at 2))
+    rw (c.unless.ensures, c.be16.ensures, only_zero (whole_at a.s.now a.at 2))

@@ -4,4 +4,4 @@ use Rattle.wire.proofs.places.bad_sweep.Goals as goal
 
 pub returns : goal.returns
 unfolding bad_place
-returns c = rw (c.bad_unless.ensures, c.is_sweep.ensures, c.byte_at.ensures)
+returns c = rw (c.unless.ensures, c.is_sweep.ensures, c.byte_at.ensures)

@@ -1,6 +1,6 @@
 -- The loop's invariant: the text is shaped where what was seen is and the rest may follow it. The measure is what is left of the length.
 -- Assumes nothing.
-use Rattle.octets.proofs.Proving.{Bool, ◌&&◌, ◌-◌, ◌∙◌, ap, drop, false, rules, sym}
+use Rattle.octets.proofs.Proving.{Bool, ◌&&◌, ◌∙◌, ap, drop, false, rules, sym}
 use Rattle.wire.proofs.Shapes.{rest, shaped-none, shaped-first, shaped-next, shaped-end}
 use Rattle.wire.proofs.text.is_shaped.Goals as goal
 
