@@ -1,17 +1,12 @@
--- The four messages that a client sends as values: each struct from the bytes of its layout, and back, and
--- what its reader gives.
+-- The four messages that a client sends as values: each struct from the bytes of its layout, and back.
 use Rattle.std.specs.Prelude.{ℕ, List}
 use Rattle.wire.specs.Layout.{Values, ◌&◌, FromFields, reading, spell}
-use Rattle.wire.specs.Messages.{enter_order, replace_order, cancel_order, modify_order, read_answer, legal_or_zeros}
+use Rattle.wire.specs.Messages.{enter_order, replace_order, cancel_order, modify_order}
 use Rattle.wire.specs.Shares.{total, removed}
 pub use Rattle.inbound.specs.declared.enter_order.EnterOrder.{EnterOrder}
-pub use Rattle.inbound.specs.declared.enter_order.EnterOrderRead.{EnterOrderRead}
 pub use Rattle.inbound.specs.declared.replace_order.ReplaceOrder.{ReplaceOrder}
-pub use Rattle.inbound.specs.declared.replace_order.ReplaceOrderRead.{ReplaceOrderRead}
 pub use Rattle.inbound.specs.declared.cancel_order.CancelOrder.{CancelOrder}
-pub use Rattle.inbound.specs.declared.cancel_order.CancelOrderRead.{CancelOrderRead}
 pub use Rattle.inbound.specs.declared.modify_order.ModifyOrder.{ModifyOrder}
-pub use Rattle.inbound.specs.declared.modify_order.ModifyOrderRead.{ModifyOrderRead}
 
 -- ---- Enter Order
 
@@ -42,9 +37,6 @@ enter_order_values m =
 unfoldable pub enter_order_bytes : EnterOrder → List ℕ
 enter_order_bytes m = spell enter_order (enter_order_values m)
 
-abbrev pub read_enter_order : List ℕ → EnterOrderRead
-read_enter_order s = record { answer = read_answer enter_order s; body = enter_order_of (legal_or_zeros enter_order s) }
-
 -- ---- Replace Order
 
 abbrev pub replace_order_made : FromFields replace_order.fields ReplaceOrder
@@ -68,9 +60,6 @@ replace_order_values m = m.existing & m.replacement & m.shares.0 & m.price & m.t
 unfoldable pub replace_order_bytes : ReplaceOrder → List ℕ
 replace_order_bytes m = spell replace_order (replace_order_values m)
 
-abbrev pub read_replace_order : List ℕ → ReplaceOrderRead
-read_replace_order s = record { answer = read_answer replace_order s; body = replace_order_of (legal_or_zeros replace_order s) }
-
 -- ---- Cancel Order
 
 abbrev pub cancel_order_made : FromFields cancel_order.fields CancelOrder
@@ -87,9 +76,6 @@ cancel_order_values m = m.token & m.size.0 & tt
 
 unfoldable pub cancel_order_bytes : CancelOrder → List ℕ
 cancel_order_bytes m = spell cancel_order (cancel_order_values m)
-
-abbrev pub read_cancel_order : List ℕ → CancelOrderRead
-read_cancel_order s = record { answer = read_answer cancel_order s; body = cancel_order_of (legal_or_zeros cancel_order s) }
 
 -- ---- Modify Order
 
@@ -108,6 +94,3 @@ modify_order_values m = m.token & m.side & m.shares.0 & tt
 
 unfoldable pub modify_order_bytes : ModifyOrder → List ℕ
 modify_order_bytes m = spell modify_order (modify_order_values m)
-
-abbrev pub read_modify_order : List ℕ → ModifyOrderRead
-read_modify_order s = record { answer = read_answer modify_order s; body = modify_order_of (legal_or_zeros modify_order s) }

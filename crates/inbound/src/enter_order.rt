@@ -1,14 +1,13 @@
 // Enter Order (O, 48 bytes): enters an order.
-ghost use Rattle.std.specs.Prelude.{◌≡◌, length};
-ghost use Rattle.wire.specs.Messages.{enter_order, write_answer, buffer_after};
-ghost use Rattle.inbound.specs.Inbound.{enter_order_of, enter_order_bytes, read_enter_order};
+ghost use Rattle.wire.specs.Messages.{enter_order};
+ghost use Rattle.inbound.specs.Inbound.{enter_order_of, enter_order_bytes};
 
 use answers::Answer;
-use wire::frame::{legal_or_zeros, send};
+use wire::body::{Body, Sent};
 use wire::judge::judge;
-use wire::messages::ENTER_ORDER;
+use wire::messages::Message;
 use wire::shares::{Removed, Total};
-use wire::spelling::{put_firm, put_integer, put_letter, put_stock, put_token, started};
+use wire::spelling::{put_integer, put_letter, put_text, started};
 
 #[derive(Clone, Copy)]
 pub struct EnterOrder {
@@ -26,59 +25,57 @@ pub struct EnterOrder {
     pub cross: u8,
 }
 
-#[derive(Clone, Copy)]
-pub struct EnterOrderRead {
-    pub answer: Answer,
-    pub body: EnterOrder,
-}
+impl Body for EnterOrder {
+    ghost layout = { enter_order };
+    ghost of_bytes = { enter_order_of };
 
-pub fn parse_enter_order(s: &[u8]) -> EnterOrder
-    requires { length s.now ≡ 48 }
-    ensures { result ≡ enter_order_of s.now }
-{
-    EnterOrder {
-        token: octets::bytes_at(s, 1),
-        side: octets::byte_at(s, 15),
-        shares: Total(octets::be32(s, 16)),
-        stock: octets::bytes_at(s, 20),
-        price: octets::be32(s, 28),
-        time: octets::be32(s, 32),
-        firm: octets::bytes_at(s, 36),
-        display: octets::byte_at(s, 40),
-        capacity: octets::byte_at(s, 41),
-        sweep: octets::byte_at(s, 42),
-        minimum: Removed(octets::be32(s, 43)),
-        cross: octets::byte_at(s, 47),
+    fn size() -> usize {
+        Message::EnterOrder.size()
+    }
+
+    fn judged(s: &[u8]) -> Answer {
+        judge(s, Message::EnterOrder)
+    }
+
+    fn parse(s: &[u8]) -> Self {
+        EnterOrder {
+            token: octets::bytes_at(s, 1),
+            side: octets::byte_at(s, 15),
+            shares: Total(octets::be32(s, 16)),
+            stock: octets::bytes_at(s, 20),
+            price: octets::be32(s, 28),
+            time: octets::be32(s, 32),
+            firm: octets::bytes_at(s, 36),
+            display: octets::byte_at(s, 40),
+            capacity: octets::byte_at(s, 41),
+            sweep: octets::byte_at(s, 42),
+            minimum: Removed(octets::be32(s, 43)),
+            cross: octets::byte_at(s, 47),
+        }
     }
 }
 
-pub fn read_enter_order(s: &[u8]) -> EnterOrderRead
-    ensures { result ≡ read_enter_order s.now }
-{
-    let answer = judge(s, ENTER_ORDER);
-    let zeros = [0u8; 48];
-    let body = parse_enter_order(legal_or_zeros(answer, s, &zeros, ENTER_ORDER));
-    EnterOrderRead { answer, body }
-}
+impl Sent for EnterOrder {
+    ghost bytes = { enter_order_bytes };
 
-pub fn write_enter_order(buffer: &mut [u8], m: EnterOrder) -> Answer
-    ensures { (result ≡ write_answer enter_order (enter_order_bytes m) buffer.old) × (buffer.new ≡ buffer_after enter_order (enter_order_bytes m) buffer.old) }
-{
-    let token = m.token;
-    let stock = m.stock;
-    let firm = m.firm;
-    let mut t = started(b'O');
-    put_token(&mut t, 1, token);
-    put_letter(&mut t, 15, m.side);
-    put_integer(&mut t, 16, m.shares.0);
-    put_stock(&mut t, 20, stock);
-    put_integer(&mut t, 28, m.price);
-    put_integer(&mut t, 32, m.time);
-    put_firm(&mut t, 36, firm);
-    put_letter(&mut t, 40, m.display);
-    put_letter(&mut t, 41, m.capacity);
-    put_letter(&mut t, 42, m.sweep);
-    put_integer(&mut t, 43, m.minimum.0);
-    put_letter(&mut t, 47, m.cross);
-    send(buffer, t, ENTER_ORDER)
+    fn message() -> Message {
+        Message::EnterOrder
+    }
+
+    fn spell(self) -> [u8; 80] {
+        let mut t = started(b'O');
+        put_text(&mut t, 1, self.token);
+        put_letter(&mut t, 15, self.side);
+        put_integer(&mut t, 16, self.shares.0);
+        put_text(&mut t, 20, self.stock);
+        put_integer(&mut t, 28, self.price);
+        put_integer(&mut t, 32, self.time);
+        put_text(&mut t, 36, self.firm);
+        put_letter(&mut t, 40, self.display);
+        put_letter(&mut t, 41, self.capacity);
+        put_letter(&mut t, 42, self.sweep);
+        put_integer(&mut t, 43, self.minimum.0);
+        put_letter(&mut t, 47, self.cross);
+        t
+    }
 }

@@ -1,14 +1,13 @@
 // Modify Order (M, 20 bytes): changes the side of an order or cuts its shares.
-ghost use Rattle.std.specs.Prelude.{◌≡◌, length};
-ghost use Rattle.wire.specs.Messages.{modify_order, write_answer, buffer_after};
-ghost use Rattle.inbound.specs.Inbound.{modify_order_of, modify_order_bytes, read_modify_order};
+ghost use Rattle.wire.specs.Messages.{modify_order};
+ghost use Rattle.inbound.specs.Inbound.{modify_order_of, modify_order_bytes};
 
 use answers::Answer;
-use wire::frame::{legal_or_zeros, send};
+use wire::body::{Body, Sent};
 use wire::judge::judge;
-use wire::messages::MODIFY_ORDER;
+use wire::messages::Message;
 use wire::shares::Total;
-use wire::spelling::{put_integer, put_letter, put_token, started};
+use wire::spelling::{put_integer, put_letter, put_text, started};
 
 #[derive(Clone, Copy)]
 pub struct ModifyOrder {
@@ -17,39 +16,39 @@ pub struct ModifyOrder {
     pub shares: Total,
 }
 
-#[derive(Clone, Copy)]
-pub struct ModifyOrderRead {
-    pub answer: Answer,
-    pub body: ModifyOrder,
-}
+impl Body for ModifyOrder {
+    ghost layout = { modify_order };
+    ghost of_bytes = { modify_order_of };
 
-pub fn parse_modify_order(s: &[u8]) -> ModifyOrder
-    requires { length s.now ≡ 20 }
-    ensures { result ≡ modify_order_of s.now }
-{
-    ModifyOrder {
-        token: octets::bytes_at(s, 1),
-        side: octets::byte_at(s, 15),
-        shares: Total(octets::be32(s, 16)),
+    fn size() -> usize {
+        Message::ModifyOrder.size()
+    }
+
+    fn judged(s: &[u8]) -> Answer {
+        judge(s, Message::ModifyOrder)
+    }
+
+    fn parse(s: &[u8]) -> Self {
+        ModifyOrder {
+            token: octets::bytes_at(s, 1),
+            side: octets::byte_at(s, 15),
+            shares: Total(octets::be32(s, 16)),
+        }
     }
 }
 
-pub fn read_modify_order(s: &[u8]) -> ModifyOrderRead
-    ensures { result ≡ read_modify_order s.now }
-{
-    let answer = judge(s, MODIFY_ORDER);
-    let zeros = [0u8; 20];
-    let body = parse_modify_order(legal_or_zeros(answer, s, &zeros, MODIFY_ORDER));
-    ModifyOrderRead { answer, body }
-}
+impl Sent for ModifyOrder {
+    ghost bytes = { modify_order_bytes };
 
-pub fn write_modify_order(buffer: &mut [u8], m: ModifyOrder) -> Answer
-    ensures { (result ≡ write_answer modify_order (modify_order_bytes m) buffer.old) × (buffer.new ≡ buffer_after modify_order (modify_order_bytes m) buffer.old) }
-{
-    let token = m.token;
-    let mut t = started(b'M');
-    put_token(&mut t, 1, token);
-    put_letter(&mut t, 15, m.side);
-    put_integer(&mut t, 16, m.shares.0);
-    send(buffer, t, MODIFY_ORDER)
+    fn message() -> Message {
+        Message::ModifyOrder
+    }
+
+    fn spell(self) -> [u8; 80] {
+        let mut t = started(b'M');
+        put_text(&mut t, 1, self.token);
+        put_letter(&mut t, 15, self.side);
+        put_integer(&mut t, 16, self.shares.0);
+        t
+    }
 }

@@ -1,14 +1,13 @@
 // Replace Order (U, 47 bytes): replaces a live order by another under a new token.
-ghost use Rattle.std.specs.Prelude.{◌≡◌, length};
-ghost use Rattle.wire.specs.Messages.{replace_order, write_answer, buffer_after};
-ghost use Rattle.inbound.specs.Inbound.{replace_order_of, replace_order_bytes, read_replace_order};
+ghost use Rattle.wire.specs.Messages.{replace_order};
+ghost use Rattle.inbound.specs.Inbound.{replace_order_of, replace_order_bytes};
 
 use answers::Answer;
-use wire::frame::{legal_or_zeros, send};
+use wire::body::{Body, Sent};
 use wire::judge::judge;
-use wire::messages::REPLACE_ORDER;
+use wire::messages::Message;
 use wire::shares::{Removed, Total};
-use wire::spelling::{put_integer, put_letter, put_token, started};
+use wire::spelling::{put_integer, put_letter, put_text, started};
 
 #[derive(Clone, Copy)]
 pub struct ReplaceOrder {
@@ -22,50 +21,49 @@ pub struct ReplaceOrder {
     pub minimum: Removed,
 }
 
-#[derive(Clone, Copy)]
-pub struct ReplaceOrderRead {
-    pub answer: Answer,
-    pub body: ReplaceOrder,
-}
+impl Body for ReplaceOrder {
+    ghost layout = { replace_order };
+    ghost of_bytes = { replace_order_of };
 
-pub fn parse_replace_order(s: &[u8]) -> ReplaceOrder
-    requires { length s.now ≡ 47 }
-    ensures { result ≡ replace_order_of s.now }
-{
-    ReplaceOrder {
-        existing: octets::bytes_at(s, 1),
-        replacement: octets::bytes_at(s, 15),
-        shares: Total(octets::be32(s, 29)),
-        price: octets::be32(s, 33),
-        time: octets::be32(s, 37),
-        display: octets::byte_at(s, 41),
-        sweep: octets::byte_at(s, 42),
-        minimum: Removed(octets::be32(s, 43)),
+    fn size() -> usize {
+        Message::ReplaceOrder.size()
+    }
+
+    fn judged(s: &[u8]) -> Answer {
+        judge(s, Message::ReplaceOrder)
+    }
+
+    fn parse(s: &[u8]) -> Self {
+        ReplaceOrder {
+            existing: octets::bytes_at(s, 1),
+            replacement: octets::bytes_at(s, 15),
+            shares: Total(octets::be32(s, 29)),
+            price: octets::be32(s, 33),
+            time: octets::be32(s, 37),
+            display: octets::byte_at(s, 41),
+            sweep: octets::byte_at(s, 42),
+            minimum: Removed(octets::be32(s, 43)),
+        }
     }
 }
 
-pub fn read_replace_order(s: &[u8]) -> ReplaceOrderRead
-    ensures { result ≡ read_replace_order s.now }
-{
-    let answer = judge(s, REPLACE_ORDER);
-    let zeros = [0u8; 47];
-    let body = parse_replace_order(legal_or_zeros(answer, s, &zeros, REPLACE_ORDER));
-    ReplaceOrderRead { answer, body }
-}
+impl Sent for ReplaceOrder {
+    ghost bytes = { replace_order_bytes };
 
-pub fn write_replace_order(buffer: &mut [u8], m: ReplaceOrder) -> Answer
-    ensures { (result ≡ write_answer replace_order (replace_order_bytes m) buffer.old) × (buffer.new ≡ buffer_after replace_order (replace_order_bytes m) buffer.old) }
-{
-    let existing = m.existing;
-    let replacement = m.replacement;
-    let mut t = started(b'U');
-    put_token(&mut t, 1, existing);
-    put_token(&mut t, 15, replacement);
-    put_integer(&mut t, 29, m.shares.0);
-    put_integer(&mut t, 33, m.price);
-    put_integer(&mut t, 37, m.time);
-    put_letter(&mut t, 41, m.display);
-    put_letter(&mut t, 42, m.sweep);
-    put_integer(&mut t, 43, m.minimum.0);
-    send(buffer, t, REPLACE_ORDER)
+    fn message() -> Message {
+        Message::ReplaceOrder
+    }
+
+    fn spell(self) -> [u8; 80] {
+        let mut t = started(b'U');
+        put_text(&mut t, 1, self.existing);
+        put_text(&mut t, 15, self.replacement);
+        put_integer(&mut t, 29, self.shares.0);
+        put_integer(&mut t, 33, self.price);
+        put_integer(&mut t, 37, self.time);
+        put_letter(&mut t, 41, self.display);
+        put_letter(&mut t, 42, self.sweep);
+        put_integer(&mut t, 43, self.minimum.0);
+        t
+    }
 }

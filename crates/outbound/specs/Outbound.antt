@@ -1,34 +1,21 @@
--- The twelve messages that the host sends as values: each struct from the bytes of its layout, and back, and
--- what its reader gives.
+-- The twelve messages that the host sends as values: each struct from the bytes of its layout, and back.
 use Rattle.std.specs.Prelude.{ℕ, List}
 use Rattle.wire.specs.Layout.{Values, ◌&◌, both_values, FromFields, grouped, reading, spell}
-use Rattle.wire.specs.Messages.{system_event, stated, accepted_rest, accepted, replaced_rest, replaced, canceled, aiq_cancelled, executed, broken_trade, rejected, cancel_pending, cancel_reject, priority_update, modified, read_answer, legal_or_zeros}
+use Rattle.wire.specs.Messages.{system_event, stated, accepted_rest, accepted, replaced_rest, replaced, canceled, aiq_cancelled, executed, broken_trade, rejected, cancel_pending, cancel_reject, priority_update, modified}
 use Rattle.wire.specs.Shares.{removed}
 pub use Rattle.outbound.specs.declared.system_event.SystemEvent.{SystemEvent}
-pub use Rattle.outbound.specs.declared.system_event.SystemEventRead.{SystemEventRead}
 pub use Rattle.outbound.specs.declared.stated.Stated.{Stated}
 pub use Rattle.outbound.specs.declared.accepted.Accepted.{Accepted}
-pub use Rattle.outbound.specs.declared.accepted.AcceptedRead.{AcceptedRead}
 pub use Rattle.outbound.specs.declared.replaced.Replaced.{Replaced}
-pub use Rattle.outbound.specs.declared.replaced.ReplacedRead.{ReplacedRead}
 pub use Rattle.outbound.specs.declared.canceled.Canceled.{Canceled}
-pub use Rattle.outbound.specs.declared.canceled.CanceledRead.{CanceledRead}
 pub use Rattle.outbound.specs.declared.aiq_cancelled.AiqCancelled.{AiqCancelled}
-pub use Rattle.outbound.specs.declared.aiq_cancelled.AiqCancelledRead.{AiqCancelledRead}
 pub use Rattle.outbound.specs.declared.executed.Executed.{Executed}
-pub use Rattle.outbound.specs.declared.executed.ExecutedRead.{ExecutedRead}
 pub use Rattle.outbound.specs.declared.broken_trade.BrokenTrade.{BrokenTrade}
-pub use Rattle.outbound.specs.declared.broken_trade.BrokenTradeRead.{BrokenTradeRead}
 pub use Rattle.outbound.specs.declared.rejected.Rejected.{Rejected}
-pub use Rattle.outbound.specs.declared.rejected.RejectedRead.{RejectedRead}
 pub use Rattle.outbound.specs.declared.cancel_pending.CancelPending.{CancelPending}
-pub use Rattle.outbound.specs.declared.cancel_pending.CancelPendingRead.{CancelPendingRead}
 pub use Rattle.outbound.specs.declared.cancel_reject.CancelReject.{CancelReject}
-pub use Rattle.outbound.specs.declared.cancel_reject.CancelRejectRead.{CancelRejectRead}
 pub use Rattle.outbound.specs.declared.priority_update.PriorityUpdate.{PriorityUpdate}
-pub use Rattle.outbound.specs.declared.priority_update.PriorityUpdateRead.{PriorityUpdateRead}
 pub use Rattle.outbound.specs.declared.modified.Modified.{Modified}
-pub use Rattle.outbound.specs.declared.modified.ModifiedRead.{ModifiedRead}
 
 -- ---- System Event
 
@@ -46,9 +33,6 @@ system_event_values m = m.stamp & m.event & tt
 
 unfoldable pub system_event_bytes : SystemEvent → List ℕ
 system_event_bytes m = spell system_event (system_event_values m)
-
-abbrev pub read_system_event : List ℕ → SystemEventRead
-read_system_event s = record { answer = read_answer system_event s; body = system_event_of (legal_or_zeros system_event s) }
 
 -- ---- What Accepted and Replaced both state
 
@@ -92,9 +76,6 @@ accepted_values m = m.stamp & m.token & both_values stated accepted_rest (stated
 unfoldable pub accepted_bytes : Accepted → List ℕ
 accepted_bytes m = spell accepted (accepted_values m)
 
-abbrev pub read_accepted : List ℕ → AcceptedRead
-read_accepted s = record { answer = read_answer accepted s; body = accepted_of (legal_or_zeros accepted s) }
-
 -- ---- Replaced
 
 abbrev pub replaced_made : FromFields replaced.fields Replaced
@@ -110,9 +91,6 @@ replaced_values m = m.stamp & m.token & both_values stated replaced_rest (stated
 
 unfoldable pub replaced_bytes : Replaced → List ℕ
 replaced_bytes m = spell replaced (replaced_values m)
-
-abbrev pub read_replaced : List ℕ → ReplacedRead
-read_replaced s = record { answer = read_answer replaced s; body = replaced_of (legal_or_zeros replaced s) }
 
 -- ---- Canceled
 
@@ -132,9 +110,6 @@ canceled_values m = m.stamp & m.token & m.decrement.0 & m.reason & tt
 
 unfoldable pub canceled_bytes : Canceled → List ℕ
 canceled_bytes m = spell canceled (canceled_values m)
-
-abbrev pub read_canceled : List ℕ → CanceledRead
-read_canceled s = record { answer = read_answer canceled s; body = canceled_of (legal_or_zeros canceled s) }
 
 -- ---- Aiq Cancelled
 
@@ -158,9 +133,6 @@ aiq_cancelled_values m = m.stamp & m.token & m.decrement.0 & m.reason & m.preven
 unfoldable pub aiq_cancelled_bytes : AiqCancelled → List ℕ
 aiq_cancelled_bytes m = spell aiq_cancelled (aiq_cancelled_values m)
 
-abbrev pub read_aiq_cancelled : List ℕ → AiqCancelledRead
-read_aiq_cancelled s = record { answer = read_answer aiq_cancelled s; body = aiq_cancelled_of (legal_or_zeros aiq_cancelled s) }
-
 -- ---- Executed
 
 abbrev pub executed_made : FromFields executed.fields Executed
@@ -182,9 +154,6 @@ executed_values m = m.stamp & m.token & m.shares.0 & m.price & m.flag & m.match_
 unfoldable pub executed_bytes : Executed → List ℕ
 executed_bytes m = spell executed (executed_values m)
 
-abbrev pub read_executed : List ℕ → ExecutedRead
-read_executed s = record { answer = read_answer executed s; body = executed_of (legal_or_zeros executed s) }
-
 -- ---- Broken Trade
 
 abbrev pub broken_trade_made : FromFields broken_trade.fields BrokenTrade
@@ -204,9 +173,6 @@ broken_trade_values m = m.stamp & m.token & m.match_number & m.reason & tt
 unfoldable pub broken_trade_bytes : BrokenTrade → List ℕ
 broken_trade_bytes m = spell broken_trade (broken_trade_values m)
 
-abbrev pub read_broken_trade : List ℕ → BrokenTradeRead
-read_broken_trade s = record { answer = read_answer broken_trade s; body = broken_trade_of (legal_or_zeros broken_trade s) }
-
 -- ---- Rejected
 
 abbrev pub rejected_made : FromFields rejected.fields Rejected
@@ -225,9 +191,6 @@ rejected_values m = m.stamp & m.token & m.reason & tt
 unfoldable pub rejected_bytes : Rejected → List ℕ
 rejected_bytes m = spell rejected (rejected_values m)
 
-abbrev pub read_rejected : List ℕ → RejectedRead
-read_rejected s = record { answer = read_answer rejected s; body = rejected_of (legal_or_zeros rejected s) }
-
 -- ---- Cancel Pending
 
 abbrev pub cancel_pending_made : FromFields cancel_pending.fields CancelPending
@@ -245,9 +208,6 @@ cancel_pending_values m = m.stamp & m.token & tt
 unfoldable pub cancel_pending_bytes : CancelPending → List ℕ
 cancel_pending_bytes m = spell cancel_pending (cancel_pending_values m)
 
-abbrev pub read_cancel_pending : List ℕ → CancelPendingRead
-read_cancel_pending s = record { answer = read_answer cancel_pending s; body = cancel_pending_of (legal_or_zeros cancel_pending s) }
-
 -- ---- Cancel Reject
 
 abbrev pub cancel_reject_made : FromFields cancel_reject.fields CancelReject
@@ -264,9 +224,6 @@ cancel_reject_values m = m.stamp & m.token & tt
 
 unfoldable pub cancel_reject_bytes : CancelReject → List ℕ
 cancel_reject_bytes m = spell cancel_reject (cancel_reject_values m)
-
-abbrev pub read_cancel_reject : List ℕ → CancelRejectRead
-read_cancel_reject s = record { answer = read_answer cancel_reject s; body = cancel_reject_of (legal_or_zeros cancel_reject s) }
 
 -- ---- Priority Update
 
@@ -288,9 +245,6 @@ priority_update_values m = m.stamp & m.token & m.price & m.display & m.reference
 unfoldable pub priority_update_bytes : PriorityUpdate → List ℕ
 priority_update_bytes m = spell priority_update (priority_update_values m)
 
-abbrev pub read_priority_update : List ℕ → PriorityUpdateRead
-read_priority_update s = record { answer = read_answer priority_update s; body = priority_update_of (legal_or_zeros priority_update s) }
-
 -- ---- Modified
 
 abbrev pub modified_made : FromFields modified.fields Modified
@@ -309,6 +263,3 @@ modified_values m = m.stamp & m.token & m.side & m.shares.0 & tt
 
 unfoldable pub modified_bytes : Modified → List ℕ
 modified_bytes m = spell modified (modified_values m)
-
-abbrev pub read_modified : List ℕ → ModifiedRead
-read_modified s = record { answer = read_answer modified s; body = modified_of (legal_or_zeros modified s) }

@@ -1,14 +1,13 @@
 // Accepted (A, 66 bytes): an order was taken, with what is open of it.
-ghost use Rattle.std.specs.Prelude.{◌≡◌, length};
-ghost use Rattle.wire.specs.Messages.{accepted, in_eighty, write_answer, buffer_after};
-ghost use Rattle.outbound.specs.Outbound.{accepted_bytes, read_accepted};
+ghost use Rattle.wire.specs.Messages.{accepted};
+ghost use Rattle.outbound.specs.Outbound.{accepted_of, accepted_bytes};
 
 use crate::head::headed;
 use crate::stated::{Stated, parse_stated, put_stated};
 use answers::Answer;
-use wire::frame::{legal_or_zeros, send};
+use wire::body::{Body, Sent};
 use wire::judge::judge;
-use wire::messages::ACCEPTED;
+use wire::messages::Message;
 use wire::spelling::put_letter;
 
 #[derive(Clone, Copy)]
@@ -19,40 +18,39 @@ pub struct Accepted {
     pub weight: u8,
 }
 
-#[derive(Clone, Copy)]
-pub struct AcceptedRead {
-    pub answer: Answer,
-    pub body: Accepted,
+impl Body for Accepted {
+    ghost layout = { accepted };
+    ghost of_bytes = { accepted_of };
+
+    fn size() -> usize {
+        Message::Accepted.size()
+    }
+
+    fn judged(s: &[u8]) -> Answer {
+        judge(s, Message::Accepted)
+    }
+
+    fn parse(s: &[u8]) -> Self {
+        Accepted {
+            stamp: octets::be64(s, 1),
+            token: octets::bytes_at(s, 9),
+            order: parse_stated(s),
+            weight: octets::byte_at(s, 65),
+        }
+    }
 }
 
-pub fn read_accepted(s: &[u8]) -> AcceptedRead
-    ensures { result ≡ read_accepted s.now }
-{
-    let answer = judge(s, ACCEPTED);
-    let zeros = [0u8; 66];
-    let b = legal_or_zeros(answer, s, &zeros, ACCEPTED);
-    let body = Accepted {
-        stamp: octets::be64(b, 1),
-        token: octets::bytes_at(b, 9),
-        order: parse_stated(b),
-        weight: octets::byte_at(b, 65),
-    };
-    AcceptedRead { answer, body }
-}
+impl Sent for Accepted {
+    ghost bytes = { accepted_bytes };
 
-pub fn spell_accepted(m: Accepted) -> [u8; 80]
-    ensures { (result ≡ in_eighty (accepted_bytes m)) × (length (accepted_bytes m) ≡ 66) }
-{
-    let token = m.token;
-    let order = m.order;
-    let mut t = headed(b'A', m.stamp, token);
-    put_stated(&mut t, order);
-    put_letter(&mut t, 65, m.weight);
-    t
-}
+    fn message() -> Message {
+        Message::Accepted
+    }
 
-pub fn write_accepted(buffer: &mut [u8], m: Accepted) -> Answer
-    ensures { (result ≡ write_answer accepted (accepted_bytes m) buffer.old) × (buffer.new ≡ buffer_after accepted (accepted_bytes m) buffer.old) }
-{
-    send(buffer, spell_accepted(m), ACCEPTED)
+    fn spell(self) -> [u8; 80] {
+        let mut t = headed(b'A', self.stamp, self.token);
+        put_stated(&mut t, self.order);
+        put_letter(&mut t, 65, self.weight);
+        t
+    }
 }

@@ -1,13 +1,12 @@
 // Broken Trade (B, 32 bytes): an execution was broken.
-ghost use Rattle.std.specs.Prelude.{◌≡◌, length};
-ghost use Rattle.wire.specs.Messages.{broken_trade, in_eighty, write_answer, buffer_after};
-ghost use Rattle.outbound.specs.Outbound.{broken_trade_bytes, read_broken_trade};
+ghost use Rattle.wire.specs.Messages.{broken_trade};
+ghost use Rattle.outbound.specs.Outbound.{broken_trade_of, broken_trade_bytes};
 
 use crate::head::headed;
 use answers::Answer;
-use wire::frame::{legal_or_zeros, send};
+use wire::body::{Body, Sent};
 use wire::judge::judge;
-use wire::messages::BROKEN_TRADE;
+use wire::messages::Message;
 use wire::spelling::{put_letter, put_long};
 
 #[derive(Clone, Copy)]
@@ -18,39 +17,39 @@ pub struct BrokenTrade {
     pub reason: u8,
 }
 
-#[derive(Clone, Copy)]
-pub struct BrokenTradeRead {
-    pub answer: Answer,
-    pub body: BrokenTrade,
+impl Body for BrokenTrade {
+    ghost layout = { broken_trade };
+    ghost of_bytes = { broken_trade_of };
+
+    fn size() -> usize {
+        Message::BrokenTrade.size()
+    }
+
+    fn judged(s: &[u8]) -> Answer {
+        judge(s, Message::BrokenTrade)
+    }
+
+    fn parse(s: &[u8]) -> Self {
+        BrokenTrade {
+            stamp: octets::be64(s, 1),
+            token: octets::bytes_at(s, 9),
+            match_number: octets::be64(s, 23),
+            reason: octets::byte_at(s, 31),
+        }
+    }
 }
 
-pub fn read_broken_trade(s: &[u8]) -> BrokenTradeRead
-    ensures { result ≡ read_broken_trade s.now }
-{
-    let answer = judge(s, BROKEN_TRADE);
-    let zeros = [0u8; 32];
-    let b = legal_or_zeros(answer, s, &zeros, BROKEN_TRADE);
-    let body = BrokenTrade {
-        stamp: octets::be64(b, 1),
-        token: octets::bytes_at(b, 9),
-        match_number: octets::be64(b, 23),
-        reason: octets::byte_at(b, 31),
-    };
-    BrokenTradeRead { answer, body }
-}
+impl Sent for BrokenTrade {
+    ghost bytes = { broken_trade_bytes };
 
-fn spell_broken_trade(m: BrokenTrade) -> [u8; 80]
-    ensures { (result ≡ in_eighty (broken_trade_bytes m)) × (length (broken_trade_bytes m) ≡ 32) }
-{
-    let token = m.token;
-    let mut t = headed(b'B', m.stamp, token);
-    put_long(&mut t, 23, m.match_number);
-    put_letter(&mut t, 31, m.reason);
-    t
-}
+    fn message() -> Message {
+        Message::BrokenTrade
+    }
 
-pub fn write_broken_trade(buffer: &mut [u8], m: BrokenTrade) -> Answer
-    ensures { (result ≡ write_answer broken_trade (broken_trade_bytes m) buffer.old) × (buffer.new ≡ buffer_after broken_trade (broken_trade_bytes m) buffer.old) }
-{
-    send(buffer, spell_broken_trade(m), BROKEN_TRADE)
+    fn spell(self) -> [u8; 80] {
+        let mut t = headed(b'B', self.stamp, self.token);
+        put_long(&mut t, 23, self.match_number);
+        put_letter(&mut t, 31, self.reason);
+        t
+    }
 }

@@ -1,13 +1,12 @@
 // Cancel Reject (I, 23 bytes): a cancel came too late for the cross.
-ghost use Rattle.std.specs.Prelude.{◌≡◌, length};
-ghost use Rattle.wire.specs.Messages.{cancel_reject, in_eighty, write_answer, buffer_after};
-ghost use Rattle.outbound.specs.Outbound.{cancel_reject_bytes, read_cancel_reject};
+ghost use Rattle.wire.specs.Messages.{cancel_reject};
+ghost use Rattle.outbound.specs.Outbound.{cancel_reject_of, cancel_reject_bytes};
 
 use crate::head::headed;
 use answers::Answer;
-use wire::frame::{legal_or_zeros, send};
+use wire::body::{Body, Sent};
 use wire::judge::judge;
-use wire::messages::CANCEL_REJECT;
+use wire::messages::Message;
 
 #[derive(Clone, Copy)]
 pub struct CancelReject {
@@ -15,34 +14,34 @@ pub struct CancelReject {
     pub token: [u8; 14],
 }
 
-#[derive(Clone, Copy)]
-pub struct CancelRejectRead {
-    pub answer: Answer,
-    pub body: CancelReject,
+impl Body for CancelReject {
+    ghost layout = { cancel_reject };
+    ghost of_bytes = { cancel_reject_of };
+
+    fn size() -> usize {
+        Message::CancelReject.size()
+    }
+
+    fn judged(s: &[u8]) -> Answer {
+        judge(s, Message::CancelReject)
+    }
+
+    fn parse(s: &[u8]) -> Self {
+        CancelReject {
+            stamp: octets::be64(s, 1),
+            token: octets::bytes_at(s, 9),
+        }
+    }
 }
 
-pub fn read_cancel_reject(s: &[u8]) -> CancelRejectRead
-    ensures { result ≡ read_cancel_reject s.now }
-{
-    let answer = judge(s, CANCEL_REJECT);
-    let zeros = [0u8; 23];
-    let b = legal_or_zeros(answer, s, &zeros, CANCEL_REJECT);
-    let body = CancelReject {
-        stamp: octets::be64(b, 1),
-        token: octets::bytes_at(b, 9),
-    };
-    CancelRejectRead { answer, body }
-}
+impl Sent for CancelReject {
+    ghost bytes = { cancel_reject_bytes };
 
-pub fn spell_cancel_reject(m: CancelReject) -> [u8; 80]
-    ensures { (result ≡ in_eighty (cancel_reject_bytes m)) × (length (cancel_reject_bytes m) ≡ 23) }
-{
-    let token = m.token;
-    headed(b'I', m.stamp, token)
-}
+    fn message() -> Message {
+        Message::CancelReject
+    }
 
-pub fn write_cancel_reject(buffer: &mut [u8], m: CancelReject) -> Answer
-    ensures { (result ≡ write_answer cancel_reject (cancel_reject_bytes m) buffer.old) × (buffer.new ≡ buffer_after cancel_reject (cancel_reject_bytes m) buffer.old) }
-{
-    send(buffer, spell_cancel_reject(m), CANCEL_REJECT)
+    fn spell(self) -> [u8; 80] {
+        headed(b'I', self.stamp, self.token)
+    }
 }

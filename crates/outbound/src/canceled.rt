@@ -1,13 +1,12 @@
 // Canceled (C, 28 bytes): shares were taken off an order.
-ghost use Rattle.std.specs.Prelude.{◌≡◌, length};
-ghost use Rattle.wire.specs.Messages.{canceled, in_eighty, write_answer, buffer_after};
-ghost use Rattle.outbound.specs.Outbound.{canceled_bytes, read_canceled};
+ghost use Rattle.wire.specs.Messages.{canceled};
+ghost use Rattle.outbound.specs.Outbound.{canceled_of, canceled_bytes};
 
 use crate::head::headed;
 use answers::Answer;
-use wire::frame::{legal_or_zeros, send};
+use wire::body::{Body, Sent};
 use wire::judge::judge;
-use wire::messages::CANCELED;
+use wire::messages::Message;
 use wire::shares::Removed;
 use wire::spelling::{put_integer, put_letter};
 
@@ -19,39 +18,39 @@ pub struct Canceled {
     pub reason: u8,
 }
 
-#[derive(Clone, Copy)]
-pub struct CanceledRead {
-    pub answer: Answer,
-    pub body: Canceled,
+impl Body for Canceled {
+    ghost layout = { canceled };
+    ghost of_bytes = { canceled_of };
+
+    fn size() -> usize {
+        Message::Canceled.size()
+    }
+
+    fn judged(s: &[u8]) -> Answer {
+        judge(s, Message::Canceled)
+    }
+
+    fn parse(s: &[u8]) -> Self {
+        Canceled {
+            stamp: octets::be64(s, 1),
+            token: octets::bytes_at(s, 9),
+            decrement: Removed(octets::be32(s, 23)),
+            reason: octets::byte_at(s, 27),
+        }
+    }
 }
 
-pub fn read_canceled(s: &[u8]) -> CanceledRead
-    ensures { result ≡ read_canceled s.now }
-{
-    let answer = judge(s, CANCELED);
-    let zeros = [0u8; 28];
-    let b = legal_or_zeros(answer, s, &zeros, CANCELED);
-    let body = Canceled {
-        stamp: octets::be64(b, 1),
-        token: octets::bytes_at(b, 9),
-        decrement: Removed(octets::be32(b, 23)),
-        reason: octets::byte_at(b, 27),
-    };
-    CanceledRead { answer, body }
-}
+impl Sent for Canceled {
+    ghost bytes = { canceled_bytes };
 
-pub fn spell_canceled(m: Canceled) -> [u8; 80]
-    ensures { (result ≡ in_eighty (canceled_bytes m)) × (length (canceled_bytes m) ≡ 28) }
-{
-    let token = m.token;
-    let mut t = headed(b'C', m.stamp, token);
-    put_integer(&mut t, 23, m.decrement.0);
-    put_letter(&mut t, 27, m.reason);
-    t
-}
+    fn message() -> Message {
+        Message::Canceled
+    }
 
-pub fn write_canceled(buffer: &mut [u8], m: Canceled) -> Answer
-    ensures { (result ≡ write_answer canceled (canceled_bytes m) buffer.old) × (buffer.new ≡ buffer_after canceled (canceled_bytes m) buffer.old) }
-{
-    send(buffer, spell_canceled(m), CANCELED)
+    fn spell(self) -> [u8; 80] {
+        let mut t = headed(b'C', self.stamp, self.token);
+        put_integer(&mut t, 23, self.decrement.0);
+        put_letter(&mut t, 27, self.reason);
+        t
+    }
 }

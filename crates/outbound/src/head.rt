@@ -3,7 +3,7 @@ ghost use Rattle.std.specs.Prelude.{◌≡◌, length};
 ghost use Rattle.octets.specs.Bytes.{put, digits, zeros};
 ghost use Rattle.wire.specs.Limits.{longest_message};
 
-use wire::spelling::{put_long, put_token, started};
+use wire::spelling::{put_long, put_text, started};
 
 // With zeros behind it. The token is as long as its type says: a caller needs that of a token that it holds in a struct.
 pub(crate) fn headed(letter: u8, stamp: u64, token: [u8; 14]) -> [u8; 80]
@@ -11,6 +11,6 @@ pub(crate) fn headed(letter: u8, stamp: u64, token: [u8; 14]) -> [u8; 80]
 {
     let mut t = started(letter);
     put_long(&mut t, 1, stamp);
-    put_token(&mut t, 9, token);
+    put_text(&mut t, 9, token);
     t
 }

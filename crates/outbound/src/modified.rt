@@ -1,13 +1,12 @@
 // Modified (M, 28 bytes): an order has another side or size, with what is open of it.
-ghost use Rattle.std.specs.Prelude.{◌≡◌, length};
-ghost use Rattle.wire.specs.Messages.{modified, in_eighty, write_answer, buffer_after};
-ghost use Rattle.outbound.specs.Outbound.{modified_bytes, read_modified};
+ghost use Rattle.wire.specs.Messages.{modified};
+ghost use Rattle.outbound.specs.Outbound.{modified_of, modified_bytes};
 
 use crate::head::headed;
 use answers::Answer;
-use wire::frame::{legal_or_zeros, send};
+use wire::body::{Body, Sent};
 use wire::judge::judge;
-use wire::messages::MODIFIED;
+use wire::messages::Message;
 use wire::shares::Removed;
 use wire::spelling::{put_integer, put_letter};
 
@@ -19,39 +18,39 @@ pub struct Modified {
     pub shares: Removed,
 }
 
-#[derive(Clone, Copy)]
-pub struct ModifiedRead {
-    pub answer: Answer,
-    pub body: Modified,
+impl Body for Modified {
+    ghost layout = { modified };
+    ghost of_bytes = { modified_of };
+
+    fn size() -> usize {
+        Message::Modified.size()
+    }
+
+    fn judged(s: &[u8]) -> Answer {
+        judge(s, Message::Modified)
+    }
+
+    fn parse(s: &[u8]) -> Self {
+        Modified {
+            stamp: octets::be64(s, 1),
+            token: octets::bytes_at(s, 9),
+            side: octets::byte_at(s, 23),
+            shares: Removed(octets::be32(s, 24)),
+        }
+    }
 }
 
-pub fn read_modified(s: &[u8]) -> ModifiedRead
-    ensures { result ≡ read_modified s.now }
-{
-    let answer = judge(s, MODIFIED);
-    let zeros = [0u8; 28];
-    let b = legal_or_zeros(answer, s, &zeros, MODIFIED);
-    let body = Modified {
-        stamp: octets::be64(b, 1),
-        token: octets::bytes_at(b, 9),
-        side: octets::byte_at(b, 23),
-        shares: Removed(octets::be32(b, 24)),
-    };
-    ModifiedRead { answer, body }
-}
+impl Sent for Modified {
+    ghost bytes = { modified_bytes };
 
-pub fn spell_modified(m: Modified) -> [u8; 80]
-    ensures { (result ≡ in_eighty (modified_bytes m)) × (length (modified_bytes m) ≡ 28) }
-{
-    let token = m.token;
-    let mut t = headed(b'M', m.stamp, token);
-    put_letter(&mut t, 23, m.side);
-    put_integer(&mut t, 24, m.shares.0);
-    t
-}
+    fn message() -> Message {
+        Message::Modified
+    }
 
-pub fn write_modified(buffer: &mut [u8], m: Modified) -> Answer
-    ensures { (result ≡ write_answer modified (modified_bytes m) buffer.old) × (buffer.new ≡ buffer_after modified (modified_bytes m) buffer.old) }
-{
-    send(buffer, spell_modified(m), MODIFIED)
+    fn spell(self) -> [u8; 80] {
+        let mut t = headed(b'M', self.stamp, self.token);
+        put_letter(&mut t, 23, self.side);
+        put_integer(&mut t, 24, self.shares.0);
+        t
+    }
 }

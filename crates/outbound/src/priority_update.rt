@@ -1,13 +1,12 @@
 // Priority Update (T, 36 bytes): an order has another price, display and reference.
-ghost use Rattle.std.specs.Prelude.{◌≡◌, length};
-ghost use Rattle.wire.specs.Messages.{priority_update, in_eighty, write_answer, buffer_after};
-ghost use Rattle.outbound.specs.Outbound.{priority_update_bytes, read_priority_update};
+ghost use Rattle.wire.specs.Messages.{priority_update};
+ghost use Rattle.outbound.specs.Outbound.{priority_update_of, priority_update_bytes};
 
 use crate::head::headed;
 use answers::Answer;
-use wire::frame::{legal_or_zeros, send};
+use wire::body::{Body, Sent};
 use wire::judge::judge;
-use wire::messages::PRIORITY_UPDATE;
+use wire::messages::Message;
 use wire::spelling::{put_integer, put_letter, put_long};
 
 #[derive(Clone, Copy)]
@@ -19,41 +18,41 @@ pub struct PriorityUpdate {
     pub reference: u64,
 }
 
-#[derive(Clone, Copy)]
-pub struct PriorityUpdateRead {
-    pub answer: Answer,
-    pub body: PriorityUpdate,
+impl Body for PriorityUpdate {
+    ghost layout = { priority_update };
+    ghost of_bytes = { priority_update_of };
+
+    fn size() -> usize {
+        Message::PriorityUpdate.size()
+    }
+
+    fn judged(s: &[u8]) -> Answer {
+        judge(s, Message::PriorityUpdate)
+    }
+
+    fn parse(s: &[u8]) -> Self {
+        PriorityUpdate {
+            stamp: octets::be64(s, 1),
+            token: octets::bytes_at(s, 9),
+            price: octets::be32(s, 23),
+            display: octets::byte_at(s, 27),
+            reference: octets::be64(s, 28),
+        }
+    }
 }
 
-pub fn read_priority_update(s: &[u8]) -> PriorityUpdateRead
-    ensures { result ≡ read_priority_update s.now }
-{
-    let answer = judge(s, PRIORITY_UPDATE);
-    let zeros = [0u8; 36];
-    let b = legal_or_zeros(answer, s, &zeros, PRIORITY_UPDATE);
-    let body = PriorityUpdate {
-        stamp: octets::be64(b, 1),
-        token: octets::bytes_at(b, 9),
-        price: octets::be32(b, 23),
-        display: octets::byte_at(b, 27),
-        reference: octets::be64(b, 28),
-    };
-    PriorityUpdateRead { answer, body }
-}
+impl Sent for PriorityUpdate {
+    ghost bytes = { priority_update_bytes };
 
-pub fn spell_priority_update(m: PriorityUpdate) -> [u8; 80]
-    ensures { (result ≡ in_eighty (priority_update_bytes m)) × (length (priority_update_bytes m) ≡ 36) }
-{
-    let token = m.token;
-    let mut t = headed(b'T', m.stamp, token);
-    put_integer(&mut t, 23, m.price);
-    put_letter(&mut t, 27, m.display);
-    put_long(&mut t, 28, m.reference);
-    t
-}
+    fn message() -> Message {
+        Message::PriorityUpdate
+    }
 
-pub fn write_priority_update(buffer: &mut [u8], m: PriorityUpdate) -> Answer
-    ensures { (result ≡ write_answer priority_update (priority_update_bytes m) buffer.old) × (buffer.new ≡ buffer_after priority_update (priority_update_bytes m) buffer.old) }
-{
-    send(buffer, spell_priority_update(m), PRIORITY_UPDATE)
+    fn spell(self) -> [u8; 80] {
+        let mut t = headed(b'T', self.stamp, self.token);
+        put_integer(&mut t, 23, self.price);
+        put_letter(&mut t, 27, self.display);
+        put_long(&mut t, 28, self.reference);
+        t
+    }
 }

@@ -1,13 +1,12 @@
 // Rejected (J, 24 bytes): an order or a replacement was not taken.
-ghost use Rattle.std.specs.Prelude.{◌≡◌, length};
-ghost use Rattle.wire.specs.Messages.{rejected, in_eighty, write_answer, buffer_after};
-ghost use Rattle.outbound.specs.Outbound.{rejected_bytes, read_rejected};
+ghost use Rattle.wire.specs.Messages.{rejected};
+ghost use Rattle.outbound.specs.Outbound.{rejected_of, rejected_bytes};
 
 use crate::head::headed;
 use answers::Answer;
-use wire::frame::{legal_or_zeros, send};
+use wire::body::{Body, Sent};
 use wire::judge::judge;
-use wire::messages::REJECTED;
+use wire::messages::Message;
 use wire::spelling::put_letter;
 
 #[derive(Clone, Copy)]
@@ -17,37 +16,37 @@ pub struct Rejected {
     pub reason: u8,
 }
 
-#[derive(Clone, Copy)]
-pub struct RejectedRead {
-    pub answer: Answer,
-    pub body: Rejected,
+impl Body for Rejected {
+    ghost layout = { rejected };
+    ghost of_bytes = { rejected_of };
+
+    fn size() -> usize {
+        Message::Rejected.size()
+    }
+
+    fn judged(s: &[u8]) -> Answer {
+        judge(s, Message::Rejected)
+    }
+
+    fn parse(s: &[u8]) -> Self {
+        Rejected {
+            stamp: octets::be64(s, 1),
+            token: octets::bytes_at(s, 9),
+            reason: octets::byte_at(s, 23),
+        }
+    }
 }
 
-pub fn read_rejected(s: &[u8]) -> RejectedRead
-    ensures { result ≡ read_rejected s.now }
-{
-    let answer = judge(s, REJECTED);
-    let zeros = [0u8; 24];
-    let b = legal_or_zeros(answer, s, &zeros, REJECTED);
-    let body = Rejected {
-        stamp: octets::be64(b, 1),
-        token: octets::bytes_at(b, 9),
-        reason: octets::byte_at(b, 23),
-    };
-    RejectedRead { answer, body }
-}
+impl Sent for Rejected {
+    ghost bytes = { rejected_bytes };
 
-pub fn spell_rejected(m: Rejected) -> [u8; 80]
-    ensures { (result ≡ in_eighty (rejected_bytes m)) × (length (rejected_bytes m) ≡ 24) }
-{
-    let token = m.token;
-    let mut t = headed(b'J', m.stamp, token);
-    put_letter(&mut t, 23, m.reason);
-    t
-}
+    fn message() -> Message {
+        Message::Rejected
+    }
 
-pub fn write_rejected(buffer: &mut [u8], m: Rejected) -> Answer
-    ensures { (result ≡ write_answer rejected (rejected_bytes m) buffer.old) × (buffer.new ≡ buffer_after rejected (rejected_bytes m) buffer.old) }
-{
-    send(buffer, spell_rejected(m), REJECTED)
+    fn spell(self) -> [u8; 80] {
+        let mut t = headed(b'J', self.stamp, self.token);
+        put_letter(&mut t, 23, self.reason);
+        t
+    }
 }

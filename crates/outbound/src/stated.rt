@@ -5,7 +5,7 @@ ghost use Rattle.wire.specs.Messages.{stated};
 ghost use Rattle.outbound.specs.Outbound.{stated_of, stated_values};
 
 use wire::shares::Removed;
-use wire::spelling::{put_firm, put_integer, put_letter, put_long, put_stock};
+use wire::spelling::{put_integer, put_letter, put_long, put_text};
 
 #[derive(Clone, Copy)]
 pub struct Stated {
@@ -48,14 +48,12 @@ pub(crate) fn parse_stated(s: &[u8]) -> Stated
 pub(crate) fn put_stated(t: &mut [u8; 80], order: Stated)
     ensures { PutFields stated (stated_values order) t.old t.new }
 {
-    let stock = order.stock;
-    let firm = order.firm;
     put_letter(t, 23, order.side);
     put_integer(t, 24, order.shares.0);
-    put_stock(t, 28, stock);
+    put_text(t, 28, order.stock);
     put_integer(t, 36, order.price);
     put_integer(t, 40, order.time);
-    put_firm(t, 44, firm);
+    put_text(t, 44, order.firm);
     put_letter(t, 48, order.display);
     put_long(t, 49, order.reference);
     put_letter(t, 57, order.capacity);

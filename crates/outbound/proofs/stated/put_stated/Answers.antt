@@ -7,9 +7,9 @@ returns state =
     let capacity = state in
     let time = capacity in
     time.put_letter.ensures
-    then time.put_integer.ensures then time.put_stock.ensures
+    then time.put_integer.ensures then time.put_text.ensures
     then time.put_integer-2.ensures then time.put_integer-3.ensures
-    then capacity.put_firm.ensures
+    then capacity.put_text-2.ensures
     then capacity.put_letter-2.ensures then capacity.put_long.ensures
     then capacity.put_letter-3.ensures then state.put_letter-4.ensures
     then state.put_integer-4.ensures then state.put_letter-5.ensures

@@ -1,7 +1,0 @@
--- The fields are put one by one, in the layout's order. Assumes nothing.
-use Rattle.outbound.proofs.Codec.{unasked, refl, ◌then◌, ends, spelled, cancel_pending_bytes}
-use Rattle.outbound.proofs.cancel_pending.spell_cancel_pending.Goals as goal
-
-pub returns : goal.returns
-unfolding cancel_pending_bytes
-returns c = spelled 12 tt refl (refl then c.headed.ensures then ends)

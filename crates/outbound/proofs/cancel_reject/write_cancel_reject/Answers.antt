@@ -1,6 +1,0 @@
--- What is sent is what was spelled. Assumes nothing.
-use Rattle.outbound.proofs.Codec.{unasked, rules, written}
-use Rattle.outbound.proofs.cancel_reject.write_cancel_reject.Goals as goal
-
-pub returns : goal.returns
-returns c = let sent = c in written _ _ _ sent.spell_cancel_reject.ensures sent.send.ensures

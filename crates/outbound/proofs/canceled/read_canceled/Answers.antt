@@ -1,9 +1,0 @@
--- The answer is the judge's, and the fields are those of what it let through. Assumes nothing.
-use Rattle.outbound.proofs.Codec.{unasked, rules, canceled_of}
-use Rattle.outbound.proofs.canceled.read_canceled.Goals as goal
-
-pub returns : goal.returns
-unfolding canceled_of
-returns c = rw (c.byte_at.ensures, c.be32.ensures, c.bytes_at.ensures)
-    (rw (c.be64.ensures, c.legal_or_zeros-b.ensures.result_value)
-    (rw c.judge-answer.ensures))

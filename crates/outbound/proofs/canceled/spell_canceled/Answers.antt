@@ -1,8 +1,0 @@
--- The fields are put one by one, in the layout's order. Assumes nothing.
-use Rattle.outbound.proofs.Codec.{unasked, rules, refl, ◌then◌, ends, spelled, canceled_bytes}
-use Rattle.outbound.proofs.canceled.spell_canceled.Goals as goal
-
-pub returns : goal.returns
-unfolding canceled_bytes
-returns c = spelled 7 tt refl (refl then c.headed-t.ensures then c.put_integer.ensures
-    then c.put_letter.ensures then ends)

@@ -1,9 +1,0 @@
--- The fields are put one by one, in the layout's order. Assumes nothing.
-use Rattle.outbound.proofs.Codec.{unasked, rules, refl, ◌then◌, ends, spelled, behind, replaced_bytes}
-use Rattle.outbound.proofs.replaced.spell_replaced.Goals as goal
-
-pub returns : goal.returns
-unfolding replaced_bytes
-returns c = spelled 6 tt refl (refl then c.headed-t.ensures
-    then behind c.put_stated.ensures (c.put_token.ensures then c.put_letter.ensures
-    then ends))
