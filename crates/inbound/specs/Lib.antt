@@ -1,1 +1,2 @@
 pub mod Inbound
+pub mod Faithful

@@ -1,6 +1,7 @@
 // Cancel Order (X, 19 bytes): cuts an order down to an intended size, which is a total.
 ghost use Rattle.wire.specs.Messages.{cancel_order};
-ghost use Rattle.inbound.specs.Inbound.{cancel_order_of, cancel_order_bytes};
+ghost use Rattle.inbound.specs.Inbound.{cancel_order_of, cancel_order_bytes, cancel_order_values};
+ghost use Rattle.inbound.specs.Faithful.{cancel-order-faithful};
 
 use answers::Answer;
 use wire::body::{Body, Sent};
@@ -48,4 +49,6 @@ impl Sent for CancelOrder {
         put_integer(&mut t, 15, self.size.0);
         t
     }
+
+    ghost faithful = { (cancel_order_values, cancel-order-faithful) };
 }

@@ -1,6 +1,7 @@
 // Enter Order (O, 48 bytes): enters an order.
 ghost use Rattle.wire.specs.Messages.{enter_order};
-ghost use Rattle.inbound.specs.Inbound.{enter_order_of, enter_order_bytes};
+ghost use Rattle.inbound.specs.Inbound.{enter_order_of, enter_order_bytes, enter_order_values};
+ghost use Rattle.inbound.specs.Faithful.{enter-order-faithful};
 
 use answers::Answer;
 use wire::body::{Body, Sent};
@@ -78,4 +79,6 @@ impl Sent for EnterOrder {
         put_letter(&mut t, 47, self.cross);
         t
     }
+
+    ghost faithful = { (enter_order_values, enter-order-faithful) };
 }

@@ -1,6 +1,7 @@
 // Modify Order (M, 20 bytes): changes the side of an order or cuts its shares.
 ghost use Rattle.wire.specs.Messages.{modify_order};
-ghost use Rattle.inbound.specs.Inbound.{modify_order_of, modify_order_bytes};
+ghost use Rattle.inbound.specs.Inbound.{modify_order_of, modify_order_bytes, modify_order_values};
+ghost use Rattle.inbound.specs.Faithful.{modify-order-faithful};
 
 use answers::Answer;
 use wire::body::{Body, Sent};
@@ -51,4 +52,6 @@ impl Sent for ModifyOrder {
         put_integer(&mut t, 16, self.shares.0);
         t
     }
+
+    ghost faithful = { (modify_order_values, modify-order-faithful) };
 }

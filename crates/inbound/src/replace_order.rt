@@ -1,6 +1,7 @@
 // Replace Order (U, 47 bytes): replaces a live order by another under a new token.
 ghost use Rattle.wire.specs.Messages.{replace_order};
-ghost use Rattle.inbound.specs.Inbound.{replace_order_of, replace_order_bytes};
+ghost use Rattle.inbound.specs.Inbound.{replace_order_of, replace_order_bytes, replace_order_values};
+ghost use Rattle.inbound.specs.Faithful.{replace-order-faithful};
 
 use answers::Answer;
 use wire::body::{Body, Sent};
@@ -66,4 +67,6 @@ impl Sent for ReplaceOrder {
         put_integer(&mut t, 43, self.minimum.0);
         t
     }
+
+    ghost faithful = { (replace_order_values, replace-order-faithful) };
 }

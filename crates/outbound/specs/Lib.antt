@@ -1,1 +1,2 @@
 pub mod Outbound
+pub mod Faithful

@@ -1,6 +1,7 @@
 // Accepted (A, 66 bytes): an order was taken, with what is open of it.
 ghost use Rattle.wire.specs.Messages.{accepted};
-ghost use Rattle.outbound.specs.Outbound.{accepted_of, accepted_bytes};
+ghost use Rattle.outbound.specs.Outbound.{accepted_of, accepted_bytes, accepted_values};
+ghost use Rattle.outbound.specs.Faithful.{accepted-faithful};
 
 use crate::head::headed;
 use crate::stated::{Stated, parse_stated, put_stated};
@@ -53,4 +54,6 @@ impl Sent for Accepted {
         put_letter(&mut t, 65, self.weight);
         t
     }
+
+    ghost faithful = { (accepted_values, accepted-faithful) };
 }

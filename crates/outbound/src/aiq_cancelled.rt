@@ -1,6 +1,7 @@
 // Aiq Cancelled (D, 37 bytes): shares were taken off an order to prevent a self match.
 ghost use Rattle.wire.specs.Messages.{aiq_cancelled};
-ghost use Rattle.outbound.specs.Outbound.{aiq_cancelled_of, aiq_cancelled_bytes};
+ghost use Rattle.outbound.specs.Outbound.{aiq_cancelled_of, aiq_cancelled_bytes, aiq_cancelled_values};
+ghost use Rattle.outbound.specs.Faithful.{aiq-cancelled-faithful};
 
 use crate::head::headed;
 use answers::Answer;
@@ -62,4 +63,6 @@ impl Sent for AiqCancelled {
         put_letter(&mut t, 36, self.flag);
         t
     }
+
+    ghost faithful = { (aiq_cancelled_values, aiq-cancelled-faithful) };
 }

@@ -1,6 +1,7 @@
 // Broken Trade (B, 32 bytes): an execution was broken.
 ghost use Rattle.wire.specs.Messages.{broken_trade};
-ghost use Rattle.outbound.specs.Outbound.{broken_trade_of, broken_trade_bytes};
+ghost use Rattle.outbound.specs.Outbound.{broken_trade_of, broken_trade_bytes, broken_trade_values};
+ghost use Rattle.outbound.specs.Faithful.{broken-trade-faithful};
 
 use crate::head::headed;
 use answers::Answer;
@@ -52,4 +53,6 @@ impl Sent for BrokenTrade {
         put_letter(&mut t, 31, self.reason);
         t
     }
+
+    ghost faithful = { (broken_trade_values, broken-trade-faithful) };
 }

@@ -1,6 +1,7 @@
 // Cancel Pending (P, 23 bytes): a cancel waits for the cross.
 ghost use Rattle.wire.specs.Messages.{cancel_pending};
-ghost use Rattle.outbound.specs.Outbound.{cancel_pending_of, cancel_pending_bytes};
+ghost use Rattle.outbound.specs.Outbound.{cancel_pending_of, cancel_pending_bytes, cancel_pending_values};
+ghost use Rattle.outbound.specs.Faithful.{cancel-pending-faithful};
 
 use crate::head::headed;
 use answers::Answer;
@@ -44,4 +45,6 @@ impl Sent for CancelPending {
     fn spell(self) -> [u8; 80] {
         headed(b'P', self.stamp, self.token)
     }
+
+    ghost faithful = { (cancel_pending_values, cancel-pending-faithful) };
 }

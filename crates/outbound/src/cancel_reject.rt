@@ -1,6 +1,7 @@
 // Cancel Reject (I, 23 bytes): a cancel came too late for the cross.
 ghost use Rattle.wire.specs.Messages.{cancel_reject};
-ghost use Rattle.outbound.specs.Outbound.{cancel_reject_of, cancel_reject_bytes};
+ghost use Rattle.outbound.specs.Outbound.{cancel_reject_of, cancel_reject_bytes, cancel_reject_values};
+ghost use Rattle.outbound.specs.Faithful.{cancel-reject-faithful};
 
 use crate::head::headed;
 use answers::Answer;
@@ -44,4 +45,6 @@ impl Sent for CancelReject {
     fn spell(self) -> [u8; 80] {
         headed(b'I', self.stamp, self.token)
     }
+
+    ghost faithful = { (cancel_reject_values, cancel-reject-faithful) };
 }

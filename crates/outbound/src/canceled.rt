@@ -1,6 +1,7 @@
 // Canceled (C, 28 bytes): shares were taken off an order.
 ghost use Rattle.wire.specs.Messages.{canceled};
-ghost use Rattle.outbound.specs.Outbound.{canceled_of, canceled_bytes};
+ghost use Rattle.outbound.specs.Outbound.{canceled_of, canceled_bytes, canceled_values};
+ghost use Rattle.outbound.specs.Faithful.{canceled-faithful};
 
 use crate::head::headed;
 use answers::Answer;
@@ -53,4 +54,6 @@ impl Sent for Canceled {
         put_letter(&mut t, 27, self.reason);
         t
     }
+
+    ghost faithful = { (canceled_values, canceled-faithful) };
 }

@@ -1,6 +1,7 @@
 // Executed (E, 40 bytes): shares of an order were executed.
 ghost use Rattle.wire.specs.Messages.{executed};
-ghost use Rattle.outbound.specs.Outbound.{executed_of, executed_bytes};
+ghost use Rattle.outbound.specs.Outbound.{executed_of, executed_bytes, executed_values};
+ghost use Rattle.outbound.specs.Faithful.{executed-faithful};
 
 use crate::head::headed;
 use answers::Answer;
@@ -59,4 +60,6 @@ impl Sent for Executed {
         put_long(&mut t, 32, self.match_number);
         t
     }
+
+    ghost faithful = { (executed_values, executed-faithful) };
 }

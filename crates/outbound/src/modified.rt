@@ -1,6 +1,7 @@
 // Modified (M, 28 bytes): an order has another side or size, with what is open of it.
 ghost use Rattle.wire.specs.Messages.{modified};
-ghost use Rattle.outbound.specs.Outbound.{modified_of, modified_bytes};
+ghost use Rattle.outbound.specs.Outbound.{modified_of, modified_bytes, modified_values};
+ghost use Rattle.outbound.specs.Faithful.{modified-faithful};
 
 use crate::head::headed;
 use answers::Answer;
@@ -53,4 +54,6 @@ impl Sent for Modified {
         put_integer(&mut t, 24, self.shares.0);
         t
     }
+
+    ghost faithful = { (modified_values, modified-faithful) };
 }

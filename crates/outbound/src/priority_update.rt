@@ -1,6 +1,7 @@
 // Priority Update (T, 36 bytes): an order has another price, display and reference.
 ghost use Rattle.wire.specs.Messages.{priority_update};
-ghost use Rattle.outbound.specs.Outbound.{priority_update_of, priority_update_bytes};
+ghost use Rattle.outbound.specs.Outbound.{priority_update_of, priority_update_bytes, priority_update_values};
+ghost use Rattle.outbound.specs.Faithful.{priority-update-faithful};
 
 use crate::head::headed;
 use answers::Answer;
@@ -55,4 +56,6 @@ impl Sent for PriorityUpdate {
         put_long(&mut t, 28, self.reference);
         t
     }
+
+    ghost faithful = { (priority_update_values, priority-update-faithful) };
 }

@@ -1,6 +1,7 @@
 // Rejected (J, 24 bytes): an order or a replacement was not taken.
 ghost use Rattle.wire.specs.Messages.{rejected};
-ghost use Rattle.outbound.specs.Outbound.{rejected_of, rejected_bytes};
+ghost use Rattle.outbound.specs.Outbound.{rejected_of, rejected_bytes, rejected_values};
+ghost use Rattle.outbound.specs.Faithful.{rejected-faithful};
 
 use crate::head::headed;
 use answers::Answer;
@@ -49,4 +50,6 @@ impl Sent for Rejected {
         put_letter(&mut t, 23, self.reason);
         t
     }
+
+    ghost faithful = { (rejected_values, rejected-faithful) };
 }

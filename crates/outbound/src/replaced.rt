@@ -1,6 +1,7 @@
 // Replaced (U, 80 bytes): an order took the place of another, with what is open of it.
 ghost use Rattle.wire.specs.Messages.{replaced};
-ghost use Rattle.outbound.specs.Outbound.{replaced_of, replaced_bytes};
+ghost use Rattle.outbound.specs.Outbound.{replaced_of, replaced_bytes, replaced_values};
+ghost use Rattle.outbound.specs.Faithful.{replaced-faithful};
 
 use crate::head::headed;
 use crate::stated::{Stated, parse_stated, put_stated};
@@ -56,4 +57,6 @@ impl Sent for Replaced {
         put_letter(&mut t, 79, self.weight);
         t
     }
+
+    ghost faithful = { (replaced_values, replaced-faithful) };
 }

@@ -1,6 +1,7 @@
 // System Event (S, 10 bytes): the day begins or ends.
 ghost use Rattle.wire.specs.Messages.{system_event};
-ghost use Rattle.outbound.specs.Outbound.{system_event_of, system_event_bytes};
+ghost use Rattle.outbound.specs.Outbound.{system_event_of, system_event_bytes, system_event_values};
+ghost use Rattle.outbound.specs.Faithful.{system-event-faithful};
 
 use answers::Answer;
 use wire::body::{Body, Sent};
@@ -47,4 +48,6 @@ impl Sent for SystemEvent {
         put_letter(&mut t, 9, self.event);
         t
     }
+
+    ghost faithful = { (system_event_values, system-event-faithful) };
 }

@@ -1,4 +1,3 @@
 pub mod Opened
 pub mod Codec
 pub mod Faithful
-pub mod Unique

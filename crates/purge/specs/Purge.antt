@@ -4,11 +4,8 @@
 use Rattle.std.specs.Prelude.{ℕ, List, [], ◌∷◌}
 use Prim.Native.Char.{code}
 use Rattle.wire.specs.Layout.{Layout, whole_at, text_at, blank_at, range_at, Values, ◌&◌, FromFields, reading, spell}
-use Rattle.wire.specs.Messages.{read_answer, legal_or_zeros}
 pub use Rattle.purge.specs.declared.mass_cancel.MassCancel.{MassCancel}
-pub use Rattle.purge.specs.declared.mass_cancel.MassCancelRead.{MassCancelRead}
 pub use Rattle.purge.specs.declared.order_entry.OrderEntry.{OrderEntry}
-pub use Rattle.purge.specs.declared.order_entry.OrderEntryRead.{OrderEntryRead}
 
 -- ---- Mass Cancel Request (Ask 5; document 000, 2.1)
 
@@ -43,9 +40,6 @@ mass_cancel_values m = m.user_reference & m.firm & m.account & m.symbol & m.appe
 unfoldable pub mass_cancel_bytes : MassCancel → List ℕ
 mass_cancel_bytes m = spell mass_cancel (mass_cancel_values m)
 
-abbrev pub read_mass_cancel : List ℕ → MassCancelRead
-read_mass_cancel s = record { answer = read_answer mass_cancel s; body = mass_cancel_of (legal_or_zeros mass_cancel s) }
-
 -- ---- Disable and Enable Order Entry Request (Ask 5; document 000, 2.2 and 2.3): one table, and a letter each
 
 abbrev pub order_entry : ℕ → Layout
@@ -65,26 +59,17 @@ disable = order_entry (code "D")
 abbrev pub enable : Layout
 enable = order_entry (code "E")
 
-abbrev pub order_entry_made : FromFields disable.fields OrderEntry
+abbrev pub order_entry_made : {letter : ℕ} → FromFields disable.fields (OrderEntry letter)
 order_entry_made reference firm account = record { user_reference = reference; firm = firm; account = account }
 
-unfoldable pub order_entry_of : List ℕ → OrderEntry
+unfoldable pub order_entry_of : {letter : ℕ} → List ℕ → OrderEntry letter
 order_entry_of s = reading disable.fields s order_entry_made
 
-abbrev pub order_entry_values : OrderEntry → Values disable.fields
+abbrev pub order_entry_values : {letter : ℕ} → OrderEntry letter → Values disable.fields
 order_entry_values m = m.user_reference & m.firm & m.account & tt
 
-unfoldable pub order_entry_bytes : ℕ → OrderEntry → List ℕ
+unfoldable pub order_entry_bytes : (letter : ℕ) → OrderEntry letter → List ℕ
 order_entry_bytes letter m = spell (order_entry letter) (order_entry_values m)
-
-abbrev pub read_order_entry : ℕ → List ℕ → OrderEntryRead
-read_order_entry letter s = record { answer = read_answer (order_entry letter) s; body = order_entry_of (legal_or_zeros (order_entry letter) s) }
-
-abbrev pub read_disable : List ℕ → OrderEntryRead
-read_disable s = read_order_entry disable.code s
-
-abbrev pub read_enable : List ℕ → OrderEntryRead
-read_enable s = read_order_entry enable.code s
 
 -- ---- the three as one list
 

@@ -1,7 +1,4 @@
-// The three messages that a client sends to the purge port: a struct for each shape, and its readers.
-//
-// `read_` takes every input: it judges first, and its answers are the paper's. `judge_` is its answer alone, and `parse_` the step behind it for a
-// caller that has judged already: it takes the fields from bytes of the message's length and does not look at the type.
+// The three messages that a client sends to the purge port: a struct for each shape, read as every message is (`wire::body`).
 #![tactic(auto)]
 
 pub mod mass_cancel;

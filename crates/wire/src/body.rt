@@ -1,7 +1,8 @@
 // A message as a value, and its reader and its writer, once for all of them: whoever says how a message's fields stand in its bytes has both.
 ghost use Rattle.std.specs.Prelude.{◌≡◌, ◌≤◌, List, ℕ, length, take};
 ghost use Rattle.wire.specs.Limits.{longest_message};
-ghost use Rattle.wire.specs.Layout.{Layout};
+ghost use Rattle.wire.specs.Layout.{Layout, Values};
+ghost use Rattle.wire.specs.Faithful.{Faithful};
 ghost use Rattle.wire.specs.Messages.{message_layout, number, in_eighty, read_answer, read_as, write_answer, buffer_after};
 
 use crate::judge::{first_bad, judge};
@@ -41,6 +42,9 @@ pub trait Sent: Body {
     // The message at the front of eighty bytes, the length of the longest.
     fn spell(self) -> [u8; 80]
         ensures { (result ≡ in_eighty (bytes self)) × (length (bytes self) ≡ Self.layout.size) };
+
+    // Reading and writing are each other's inverses, and the answers are given exactly when the paper says.
+    ghost faithful: { (values : Self → Values Self.Body.layout.fields) × Faithful Self.Body.layout Self.Body.of_bytes bytes values };
 }
 
 // What a reader gives: its answer, and the fields, which are all zero where the answer is a refusal (the rule paper: so they stand beside it).
