@@ -1,6 +1,7 @@
 -- What the sixteen echoes cite: what was read is written as it was, and the type says which layout it is. Assumes nothing.
 use Rattle.octets.proofs.Proving.{Bool, List, List·get_d-eq-default, [], ◌∙◌, ◌∷◌, ◌≡◌, ap, arith, eqb, false, get_or, length, ne_eqb, sym, true, ℕ}
-use Rattle.std.specs.Prelude.{Option, None, Some}
+use Rattle.std.specs.Prelude.{Option, None, Some, Ok, Err}
+use Rattle.answers.specs.declared.Refusal.{Refusal}
 use Rattle.octets.specs.Choice.{pick}
 use Rattle.answers.specs.Answer.{is_done, if_done}
 use Rattle.answers.specs.Answer.{Answer}
@@ -8,34 +9,36 @@ use Rattle.answers.specs.Answer.{Malformed}
 use Rattle.answers.proofs.Laws.{is-done}
 use Rattle.wire.specs.Layout.{Layout, Values, layout_for}
 use Rattle.wire.specs.Legal.{Bytes}
-use Rattle.wire.specs.Messages.{read_answer, legal_or_zeros, write_answer, buffer_after}
+use Rattle.wire.specs.Messages.{read_answer, legal_or_zeros, where_done, write_answer, buffer_after}
 use Rattle.wire.proofs.Codec.{Faithful}
 use Rattle.echo.specs.Echo.{echo_answer, echoed, answer_among, echoed_among}
 pub use Rattle.wire.proofs.Codec.{refl}
-pub use Rattle.inbound.proofs.Faithful.{enter-order-faithful, replace-order-faithful, cancel-order-faithful, modify-order-faithful}
-pub use Rattle.outbound.proofs.Faithful.{system-event-faithful, accepted-faithful, replaced-faithful, canceled-faithful, aiq-cancelled-faithful, executed-faithful, broken-trade-faithful, rejected-faithful, cancel-pending-faithful, cancel-reject-faithful, priority-update-faithful, modified-faithful}
 
--- g is what the reader gave, h what it promises, and the answer is asked whether it is done
-module _ (l : Layout) (s : List ℕ) {G : Type 0} {g h : G} (found : g ≡ h) (answer : G → Answer) (as_read : answer h ≡ read_answer l s)
-    {asked : Bool} (e : asked ≡ is_done (answer g)) where
-  asks : {b : Bool} → asked ≡ b → is_done (read_answer l s) ≡ b
-  asks a = ap is_done (sym (ap answer found ∙ as_read)) ∙ sym e ∙ a
-
+-- of what a reader gave, x its fields
+module _ {X : Type 0} (l : Layout) (s out : List ℕ) where
   -- a refused message: its answer, and what was lent is kept as it was
-  pub kept : asked ≡ false → {out : List ℕ} → (answer g ≡ echo_answer l s out) × (out ≡ echoed l s out)
-  unfolding echo_answer echoed if_done
-  kept left = let f = asks left in (simp f (ap answer found ∙ as_read), simp f)
+  pub kept : (x : X) {r : Refusal} → where_done (read_answer l s) x ≡ Err r → (Err r ≡ echo_answer l s out) × (out ≡ echoed l s out)
+  unfolding echo_answer echoed if_done is_done
+  kept x {r} e = go (read_answer l s) refl e
+    where
+      go : (a : Answer) → read_answer l s ≡ a → where_done a x ≡ Err r → (Err r ≡ echo_answer l s out) × (out ≡ echoed l s out)
+      go (Ok done) h e = absurd (cc)
+      go (Err q) h e = let same : q ≡ r = cc in rw (h, same) (refl, refl)
 
   -- a legal one: its fields, written
-  pub back : asked ≡ true → (out : List ℕ) {X : Type 0} (body : G → X) {of : List ℕ → X} {bytes : X → List ℕ} {values : X → Values l.fields}
-      → Faithful l of bytes values → body h ≡ of (legal_or_zeros l s) → Bytes s → {r : Answer} {exit : List ℕ}
-      → (r ≡ write_answer l (bytes (body g)) out) × (exit ≡ buffer_after l (bytes (body g)) out) → (r ≡ echo_answer l s out) × (exit ≡ echoed l s out)
-  unfolding echo_answer echoed if_done legal_or_zeros
-  back taken out {X} body {of} {bytes} faithful fields b w =
-      let t = asks taken in
-      let legal : body g ≡ of s = ap body found ∙ simp t at fields in
-      let same : bytes (body g) ≡ s = ap bytes legal ∙ faithful.same_bytes s b (is-done (read_answer l s) t) in
-      (simp t (w.0 ∙ ap (λ (x : List ℕ). write_answer l x out) same), simp t (w.1 ∙ ap (λ (x : List ℕ). buffer_after l x out) same))
+  pub back : {of : List ℕ → X} {bytes : X → List ℕ} {values : X → Values l.fields} → Faithful l of bytes values → Bytes s → {m : X}
+      → where_done (read_answer l s) (of (legal_or_zeros l s)) ≡ Ok m → {r : Answer} {exit : List ℕ}
+      → (r ≡ write_answer l (bytes m) out) × (exit ≡ buffer_after l (bytes m) out) → (r ≡ echo_answer l s out) × (exit ≡ echoed l s out)
+  unfolding echo_answer echoed if_done is_done legal_or_zeros
+  back {of} {bytes} faithful b {m} e {r} {exit} w = go (read_answer l s) refl e
+    where
+      go : (a : Answer) → read_answer l s ≡ a → where_done a (of (legal_or_zeros l s)) ≡ Ok m → (r ≡ echo_answer l s out) × (exit ≡ echoed l s out)
+      go (Ok done) h e =
+          let there : legal_or_zeros l s ≡ s = rw h refl in
+          let read : of (legal_or_zeros l s) ≡ m = cc in
+          let same : bytes m ≡ s = ap bytes (sym read ∙ ap of there) ∙ faithful.same_bytes s b h in
+          rw h (w.0 ∙ ap (λ (x : List ℕ). write_answer l x out) same, w.1 ∙ ap (λ (x : List ℕ). buffer_after l x out) same)
+      go (Err q) h e = absurd (cc)
 
 -- ---- which layout it is
 
@@ -54,11 +57,6 @@ pub known : (ls : List Layout) (s out : List ℕ) {code : ℕ} {l : Layout} → 
     → (r ≡ echo_answer l s out) × (exit ≡ echoed l s out) → (r ≡ answer_among ls s out) × (exit ≡ echoed_among ls s out)
 unfolding answer_among echoed_among
 known ls s out {code} first is w = let f = ap (layout_for ls) first ∙ computed ls code ∙ is in rw f w
-
--- where there is no byte
-pub nothing : (ls : List Layout) (s out : List ℕ) → length s ≡ 0 → layout_with ls 0 ≡ None → (Malformed ≡ answer_among ls s out) × (out ≡ echoed_among ls s out)
-unfolding answer_among echoed_among
-nothing ls s out e is = let f = ap (layout_for ls) (List·get_d-eq-default s 0 {n = 0} (omega arith)) ∙ computed ls 0 ∙ is in rw f (refl, refl)
 
 -- a type that is none of them, as a match leaves it
 abbrev Unlike : Type 0 → List Layout → ℕ → Type 0

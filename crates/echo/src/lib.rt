@@ -3,6 +3,7 @@
 
 mod from_client;
 mod from_host;
+mod message;
 
 ghost use Rattle.std.specs.Prelude.{◌≡◌};
 ghost use Rattle.echo.specs.Echo.{message_answer, message_echoed};

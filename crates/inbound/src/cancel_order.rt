@@ -4,7 +4,7 @@ ghost use Rattle.inbound.specs.Inbound.{cancel_order_of, cancel_order_bytes, can
 ghost use Rattle.inbound.specs.Faithful.{cancel-order-faithful};
 
 use answers::Answer;
-use wire::body::{Body, Sent};
+use wire::body::{Body, Written};
 use wire::judge::judge;
 use wire::messages::Message;
 use wire::shares::Total;
@@ -36,7 +36,7 @@ impl Body for CancelOrder {
     }
 }
 
-impl Sent for CancelOrder {
+impl Written for CancelOrder {
     ghost bytes = { cancel_order_bytes };
 
     fn message() -> Message {

@@ -4,7 +4,7 @@ ghost use Rattle.inbound.specs.Inbound.{enter_order_of, enter_order_bytes, enter
 ghost use Rattle.inbound.specs.Faithful.{enter-order-faithful};
 
 use answers::Answer;
-use wire::body::{Body, Sent};
+use wire::body::{Body, Written};
 use wire::judge::judge;
 use wire::messages::Message;
 use wire::shares::{Removed, Total};
@@ -56,7 +56,7 @@ impl Body for EnterOrder {
     }
 }
 
-impl Sent for EnterOrder {
+impl Written for EnterOrder {
     ghost bytes = { enter_order_bytes };
 
     fn message() -> Message {

@@ -4,7 +4,7 @@ ghost use Rattle.inbound.specs.Inbound.{modify_order_of, modify_order_bytes, mod
 ghost use Rattle.inbound.specs.Faithful.{modify-order-faithful};
 
 use answers::Answer;
-use wire::body::{Body, Sent};
+use wire::body::{Body, Written};
 use wire::judge::judge;
 use wire::messages::Message;
 use wire::shares::Total;
@@ -38,7 +38,7 @@ impl Body for ModifyOrder {
     }
 }
 
-impl Sent for ModifyOrder {
+impl Written for ModifyOrder {
     ghost bytes = { modify_order_bytes };
 
     fn message() -> Message {

@@ -4,7 +4,7 @@ ghost use Rattle.inbound.specs.Inbound.{replace_order_of, replace_order_bytes, r
 ghost use Rattle.inbound.specs.Faithful.{replace-order-faithful};
 
 use answers::Answer;
-use wire::body::{Body, Sent};
+use wire::body::{Body, Written};
 use wire::judge::judge;
 use wire::messages::Message;
 use wire::shares::{Removed, Total};
@@ -48,7 +48,7 @@ impl Body for ReplaceOrder {
     }
 }
 
-impl Sent for ReplaceOrder {
+impl Written for ReplaceOrder {
     ghost bytes = { replace_order_bytes };
 
     fn message() -> Message {

@@ -6,7 +6,7 @@ ghost use Rattle.outbound.specs.Faithful.{accepted-faithful};
 use crate::head::headed;
 use crate::stated::{Stated, parse_stated, put_stated};
 use answers::Answer;
-use wire::body::{Body, Sent};
+use wire::body::{Body, Written};
 use wire::judge::judge;
 use wire::messages::Message;
 use wire::spelling::put_letter;
@@ -41,7 +41,7 @@ impl Body for Accepted {
     }
 }
 
-impl Sent for Accepted {
+impl Written for Accepted {
     ghost bytes = { accepted_bytes };
 
     fn message() -> Message {

@@ -5,7 +5,7 @@ ghost use Rattle.outbound.specs.Faithful.{aiq-cancelled-faithful};
 
 use crate::head::headed;
 use answers::Answer;
-use wire::body::{Body, Sent};
+use wire::body::{Body, Written};
 use wire::judge::judge;
 use wire::messages::Message;
 use wire::shares::Removed;
@@ -47,7 +47,7 @@ impl Body for AiqCancelled {
     }
 }
 
-impl Sent for AiqCancelled {
+impl Written for AiqCancelled {
     ghost bytes = { aiq_cancelled_bytes };
 
     fn message() -> Message {

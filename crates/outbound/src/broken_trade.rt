@@ -5,7 +5,7 @@ ghost use Rattle.outbound.specs.Faithful.{broken-trade-faithful};
 
 use crate::head::headed;
 use answers::Answer;
-use wire::body::{Body, Sent};
+use wire::body::{Body, Written};
 use wire::judge::judge;
 use wire::messages::Message;
 use wire::spelling::{put_letter, put_long};
@@ -40,7 +40,7 @@ impl Body for BrokenTrade {
     }
 }
 
-impl Sent for BrokenTrade {
+impl Written for BrokenTrade {
     ghost bytes = { broken_trade_bytes };
 
     fn message() -> Message {

@@ -5,7 +5,7 @@ ghost use Rattle.outbound.specs.Faithful.{cancel-pending-faithful};
 
 use crate::head::headed;
 use answers::Answer;
-use wire::body::{Body, Sent};
+use wire::body::{Body, Written};
 use wire::judge::judge;
 use wire::messages::Message;
 
@@ -35,7 +35,7 @@ impl Body for CancelPending {
     }
 }
 
-impl Sent for CancelPending {
+impl Written for CancelPending {
     ghost bytes = { cancel_pending_bytes };
 
     fn message() -> Message {

@@ -5,7 +5,7 @@ ghost use Rattle.outbound.specs.Faithful.{cancel-reject-faithful};
 
 use crate::head::headed;
 use answers::Answer;
-use wire::body::{Body, Sent};
+use wire::body::{Body, Written};
 use wire::judge::judge;
 use wire::messages::Message;
 
@@ -35,7 +35,7 @@ impl Body for CancelReject {
     }
 }
 
-impl Sent for CancelReject {
+impl Written for CancelReject {
     ghost bytes = { cancel_reject_bytes };
 
     fn message() -> Message {

@@ -5,7 +5,7 @@ ghost use Rattle.outbound.specs.Faithful.{canceled-faithful};
 
 use crate::head::headed;
 use answers::Answer;
-use wire::body::{Body, Sent};
+use wire::body::{Body, Written};
 use wire::judge::judge;
 use wire::messages::Message;
 use wire::shares::Removed;
@@ -41,7 +41,7 @@ impl Body for Canceled {
     }
 }
 
-impl Sent for Canceled {
+impl Written for Canceled {
     ghost bytes = { canceled_bytes };
 
     fn message() -> Message {

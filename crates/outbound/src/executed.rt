@@ -5,7 +5,7 @@ ghost use Rattle.outbound.specs.Faithful.{executed-faithful};
 
 use crate::head::headed;
 use answers::Answer;
-use wire::body::{Body, Sent};
+use wire::body::{Body, Written};
 use wire::judge::judge;
 use wire::messages::Message;
 use wire::shares::Removed;
@@ -45,7 +45,7 @@ impl Body for Executed {
     }
 }
 
-impl Sent for Executed {
+impl Written for Executed {
     ghost bytes = { executed_bytes };
 
     fn message() -> Message {

@@ -5,7 +5,7 @@ ghost use Rattle.outbound.specs.Faithful.{modified-faithful};
 
 use crate::head::headed;
 use answers::Answer;
-use wire::body::{Body, Sent};
+use wire::body::{Body, Written};
 use wire::judge::judge;
 use wire::messages::Message;
 use wire::shares::Removed;
@@ -41,7 +41,7 @@ impl Body for Modified {
     }
 }
 
-impl Sent for Modified {
+impl Written for Modified {
     ghost bytes = { modified_bytes };
 
     fn message() -> Message {

@@ -5,7 +5,7 @@ ghost use Rattle.outbound.specs.Faithful.{priority-update-faithful};
 
 use crate::head::headed;
 use answers::Answer;
-use wire::body::{Body, Sent};
+use wire::body::{Body, Written};
 use wire::judge::judge;
 use wire::messages::Message;
 use wire::spelling::{put_integer, put_letter, put_long};
@@ -42,7 +42,7 @@ impl Body for PriorityUpdate {
     }
 }
 
-impl Sent for PriorityUpdate {
+impl Written for PriorityUpdate {
     ghost bytes = { priority_update_bytes };
 
     fn message() -> Message {

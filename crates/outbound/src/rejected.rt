@@ -5,7 +5,7 @@ ghost use Rattle.outbound.specs.Faithful.{rejected-faithful};
 
 use crate::head::headed;
 use answers::Answer;
-use wire::body::{Body, Sent};
+use wire::body::{Body, Written};
 use wire::judge::judge;
 use wire::messages::Message;
 use wire::spelling::put_letter;
@@ -38,7 +38,7 @@ impl Body for Rejected {
     }
 }
 
-impl Sent for Rejected {
+impl Written for Rejected {
     ghost bytes = { rejected_bytes };
 
     fn message() -> Message {

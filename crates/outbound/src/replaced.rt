@@ -6,7 +6,7 @@ ghost use Rattle.outbound.specs.Faithful.{replaced-faithful};
 use crate::head::headed;
 use crate::stated::{Stated, parse_stated, put_stated};
 use answers::Answer;
-use wire::body::{Body, Sent};
+use wire::body::{Body, Written};
 use wire::judge::judge;
 use wire::messages::Message;
 use wire::spelling::{put_letter, put_text};
@@ -43,7 +43,7 @@ impl Body for Replaced {
     }
 }
 
-impl Sent for Replaced {
+impl Written for Replaced {
     ghost bytes = { replaced_bytes };
 
     fn message() -> Message {

@@ -4,7 +4,7 @@ ghost use Rattle.outbound.specs.Outbound.{system_event_of, system_event_bytes, s
 ghost use Rattle.outbound.specs.Faithful.{system-event-faithful};
 
 use answers::Answer;
-use wire::body::{Body, Sent};
+use wire::body::{Body, Written};
 use wire::judge::judge;
 use wire::messages::Message;
 use wire::spelling::{put_letter, put_long, started};
@@ -35,7 +35,7 @@ impl Body for SystemEvent {
     }
 }
 
-impl Sent for SystemEvent {
+impl Written for SystemEvent {
     ghost bytes = { system_event_bytes };
 
     fn message() -> Message {

@@ -1,7 +1,8 @@
 -- The sixteen messages of document 004, a table each: the type's letter, the length, and a line for each field with its offset. Which fields
 -- are judged is the paper's (Messages and entries): tokens and stamps everywhere, side and sweep letters inbound.
 use Prim.Native.Char.{code}
-use Rattle.std.specs.Prelude.{Bool, not, ◌&&◌, List, [], ◌∷◌, ◌++◌, map, ℕ, ◌-◌, length, get_or, drop, ltb, eqb, Option, None, Some}
+use Rattle.answers.specs.declared.Refusal.{Refusal}
+use Rattle.std.specs.Prelude.{Result, Ok, Err, Bool, not, ◌&&◌, List, [], ◌∷◌, ◌++◌, map, ℕ, ◌-◌, length, get_or, drop, ltb, eqb, Option, None, Some}
 use Rattle.octets.specs.Choice.{pick, first_of◌, ◌⇒◌⨾◌}
 use Rattle.answers.specs.Answer.{if_done}
 use Rattle.answers.specs.Answer.{Answer}
@@ -326,6 +327,11 @@ legal_or_zeros l s = if_done (read_answer l s) s (zeros l.size)
 -- what the reader of a message gives, whose fields are those that `of` takes from its bytes
 abbrev pub read_as : {M : Type 0} → Layout → (List ℕ → M) → List ℕ → Reading M
 read_as l of s = record { answer = read_answer l s; body = of (legal_or_zeros l s) }
+
+-- what a done call gives, and else why it is refused
+abbrev pub where_done : {A : Type 0} → Answer → A → Result A Refusal
+where_done (Ok done) a = Ok a
+where_done (Err r) a = Err r
 
 -- a message at the front of as many bytes as the longest has, with zeros behind it
 unfoldable pub in_eighty : List ℕ → List ℕ

@@ -3,7 +3,7 @@ ghost use Rattle.std.specs.Prelude.{◌≡◌, ◌≤◌, List, ℕ, length, tak
 ghost use Rattle.wire.specs.Limits.{longest_message};
 ghost use Rattle.wire.specs.Layout.{Layout, Values};
 ghost use Rattle.wire.specs.Faithful.{Faithful};
-ghost use Rattle.wire.specs.Messages.{message_layout, number, in_eighty, read_answer, read_as, write_answer, buffer_after};
+ghost use Rattle.wire.specs.Messages.{message_layout, number, in_eighty, read_answer, read_as, where_done, write_answer, buffer_after};
 
 use crate::judge::{first_bad, judge};
 use crate::messages::Message;
@@ -32,7 +32,7 @@ pub trait Body: Copy {
 }
 
 // One of the sixteen, which are written too.
-pub trait Sent: Body {
+pub trait Written: Body {
     // its bytes from its value
     ghost bytes: { Self → List ℕ };
 
@@ -56,9 +56,13 @@ pub struct Reading<M> {
 
 impl<M: Copy> Reading<M> {
     // The fields where they are legal, and else why they are not.
-    pub fn legal(self) -> Result<M, Refusal> {
-        self.answer?;
-        Ok(self.body)
+    pub fn legal(self) -> Result<M, Refusal>
+        ensures { result ≡ where_done self.answer self.body }
+    {
+        match self.answer {
+            Ok(()) => Ok(self.body),
+            Err(refusal) => Err(refusal),
+        }
     }
 }
 
@@ -81,7 +85,7 @@ pub fn read<M: Body>(s: &[u8]) -> Reading<M>
 }
 
 // Puts the message into the buffer, where it is legal and there is room; the bytes behind it stay.
-pub fn write<M: Sent>(buffer: &mut [u8], m: M) -> Answer
+pub fn write<M: Written>(buffer: &mut [u8], m: M) -> Answer
     ensures { (result ≡ write_answer M.Body.layout (M.bytes m) buffer.old) × (buffer.new ≡ buffer_after M.Body.layout (M.bytes m) buffer.old) }
 {
     send(buffer, m.spell(), M::message())

@@ -9,5 +9,5 @@ pub returns : goal.returns
 returns g c =
     let l = message_layout (number c.message.result) in
     let long = c.spell.ensures.1 ∙ ap (λ (k : Layout). k.size) (sym c.message.ensures) in
-    let sent = written l (g.M.Sent.bytes c.args.m) c.args.buffer.now (c.spell.ensures.0, long) c.send.ensures in
+    let sent = written l (g.M.Written.bytes c.args.m) c.args.buffer.now (c.spell.ensures.0, long) c.send.ensures in
     rw c.message.ensures at sent

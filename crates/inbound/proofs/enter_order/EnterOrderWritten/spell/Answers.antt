@@ -1,0 +1,12 @@
+-- The fields are put one by one, in the layout's order. Assumes nothing.
+use Rattle.inbound.proofs.Codec.{spelled, enter_order_bytes, ◌then◌, ends}
+use Rattle.inbound.proofs.enter_order.EnterOrderWritten.spell.Goals as goal
+
+pub returns : goal.returns
+unfolding enter_order_bytes
+returns c = spelled 0 tt c.started-t.ensures
+    (c.put_text.ensures then c.put_letter.ensures then c.put_integer.ensures
+    then c.put_text-2.ensures then c.put_integer-2.ensures then c.put_integer-3.ensures
+    then c.put_text-3.ensures then c.put_letter-2.ensures then c.put_letter-3.ensures
+    then c.put_letter-4.ensures then c.put_integer-4.ensures then c.put_letter-5.ensures
+    then ends)
