@@ -1,38 +1,25 @@
 -- Every promise settles its result: two results that a public function's contract allows are equal. Assumes nothing.
-use Rattle.octets.proofs.Proving.{List, ◌≡◌, refl, ℕ}
-use seplogic.Ra.Ura.{Ura}
-use base.Logic.{SProp}
-use prog.Memory.{Memory}
-use prog.Routine.{Routine}
-use types.Logic.{Logic}
+use Rattle.octets.proofs.Proving.{List, ap₂, ℕ}
 use contract.Lifetimes.{Lfts}
-use contract.Monad.{Fun, fact}
-use denote.Triple.Entry.{Args, Res}
-use denote.Triple.Clauses.{AtExit}
-use Rattle.octets.proofs.Settles.{Settles, Settled, SettledBoth, ◌and◌, ◌also◌, settled, settled-both, one-pair}
+use Rattle.octets.proofs.Settles.{Settles, Settled, settled, one-result, one-pair}
 use Rattle.answers.specs.Answer.{Answer}
-use Rattle.outbox.specs.Outbox.{Marks, release_answer, release_marks}
+use Rattle.outbox.specs.Outbox.{Marks}
 use Rattle.outbox.proofs as outbox
-use Rattle.outbox.specs.contracts.release.release_in_place as in_place
 
-pub marks-unique : Settled outbox.marks.ring_good.Reads.Post and Settled outbox.release.release.Reads.Post
-marks-unique = (λ κs a. settled) also (λ κs a. settled)
+pub marks-unique : Settled outbox.marks.ring_good.Reads.Post
+marks-unique κs a = settled
 
-pub put-unique : SettledBoth outbox.put.put.Reads.Post and SettledBoth outbox.put.append.Reads.Post
-put-unique = (λ κs a. settled-both) also (λ κs a. settled-both)
+-- the answer, the marks and every byte of the ring
+pub put-unique : (κs : Lfts 3) (a : _) → Settles {X = Answer × (Marks × List ℕ)} (outbox.put.put.Reads.Post κs a) (λ z e. (z, (e.1.0.now, e.0.now)))
+put-unique κs a z z' e e' p p' =
+    ap₂ (λ (r : Answer) (rest : Marks × List ℕ). (r, rest)) (one-result p.0 p'.0) (one-pair p.1 p'.1)
+
+pub append-unique : (κs : Lfts 3) (a : _) → Settles {X = Marks × List ℕ} (outbox.put.append.Reads.Post κs a) (λ z e. (e.1.0.now, e.0.now))
+append-unique κs a z z' e e' p p' = one-pair p p'
+
+pub release-unique : (κs : Lfts 1) (a : _) → Settles {X = Answer × Marks} (outbox.release.release.Reads.Post κs a) (λ z e. (z, e.1.0.now))
+release-unique κs a z z' e e' p p' = one-pair p p'
 
 -- Of a part a program sees its bytes and the address at which they stand; the logic's own name for the loan it can't see.
 pub read-unique : (κs : Lfts 1) (a : _) → Settles {X = List ℕ × (ℕ × ℕ)} (outbox.read.read.Reads.Post κs a) (λ z e. (z.now, z.ref_ptr))
 read-unique κs a z z' e e' p p' = one-pair p p'
-
--- The promise of the one function that is proved by hand has no reading made for it: this is one, and that it is the promise is `refl`.
-abbrev InPlace : (κs : Lfts 1) → Args in_place.signature κs → Res in_place.signature κs → AtExit in_place.ended κs → Type 0
-InPlace κs a z e = (z ≡ release_answer a.0 a.1.0.now a.1.1.0) × (e.1.0.now ≡ release_marks a.0 a.1.0.now a.1.1.0)
-
-in-place-promise : {M : Type 1} {𝓤 : Ura M} (𝓛 : Logic 𝓤) (mem : Memory → SProp 𝓤) (run : Routine → Fun 𝓤)
-    (κs : Lfts 1) (a : Args in_place.signature κs) (z : Res in_place.signature κs) (e : AtExit in_place.ended κs)
-    → (in_place.clauses 𝓛 mem run κs a).ensures tt z e ≡ fact 𝓤 (InPlace κs a z e)
-in-place-promise 𝓛 mem run κs a z e = refl
-
-pub in-place-unique : (κs : Lfts 1) (a : Args in_place.signature κs) → Settles {X = Answer × Marks} (InPlace κs a) (λ z e. (z, e.1.0.now))
-in-place-unique κs a z z' e e' p p' = one-pair p p'

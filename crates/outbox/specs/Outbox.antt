@@ -6,7 +6,6 @@ use Rattle.answers.specs.Answer.{if_done}
 use Rattle.answers.specs.Answer.{Answer}
 use Rattle.answers.specs.Answer.{Done, WrongRing, NotHeld, Blocked}
 pub use Rattle.outbox.specs.declared.marks.Marks.{Marks}
-pub use Rattle.outbox.specs.declared.marks.Moved.{Moved}
 
 -- a ring of n bytes and its marks are right
 unfoldable pub ring_good : ℕ → Marks → Bool
@@ -89,13 +88,3 @@ put_marks n m size = if_done (put_answer n m size) (marks_with m size) m
 
 unfoldable pub release_marks : ℕ → Marks → ℕ → Marks
 release_marks n m k = if_done (release_answer n m k) (marks_without n m k) m
-
--- what a call hands back: where it refuses, the marks as they came
-abbrev pub unmoved : Answer → Marks → Moved
-unmoved answer m = record { answer = answer; marks = m }
-
-abbrev pub put_moved : ℕ → Marks → ℕ → Moved
-put_moved n m size = record { answer = put_answer n m size; marks = put_marks n m size }
-
-abbrev pub release_moved : ℕ → Marks → ℕ → Moved
-release_moved n m k = record { answer = release_answer n m k; marks = release_marks n m k }

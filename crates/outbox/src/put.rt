@@ -1,45 +1,37 @@
 // Putting: a message goes right behind the held bytes, or it is turned away whole.
 ghost use Rattle.std.specs.Prelude.{◌≡◌, ◌≤◌, true, length};
-ghost use Rattle.outbox.specs.Outbox.{ring_good, free_bytes, ring_with, marks_with, put_moved, put_ring};
+ghost use Rattle.outbox.specs.Outbox.{ring_good, free_bytes, ring_with, marks_with, put_answer, put_marks, put_ring};
 ghost use Rattle.outbox.specs.Runs.{in_two_runs};
 
-use crate::marks::{Marks, Moved, around, refused, ring_good};
-use answers::Refusal;
+use crate::marks::{Marks, around, ring_good};
+use answers::{Answer, Refusal};
 
 // Takes the message, or turns it away: the ring is judged and the room asked for before the first byte is written.
-pub fn put(ring: &mut [u8], marks: Marks, message: &[u8]) -> Moved
-    ensures { (result ≡ put_moved (length ring.old) marks (length message.now)) × (ring.new ≡ put_ring ring.old marks message.now) }
+pub fn put(ring: &mut [u8], marks: &mut Marks, message: &[u8]) -> Answer
+    ensures value { result ≡ put_answer (length ring.old) marks.old (length message.now) }
+    ensures marks_after { marks.new ≡ put_marks (length ring.old) marks.old (length message.now) }
+    ensures ring_after { ring.new ≡ put_ring ring.old marks.old message.now }
 {
     let n = ring.len();
-    if ring_good(n, marks) {
-        let held = marks.held;
-        if message.len() <= n - held {
-            let grown = append(ring, marks, message);
-            Moved {
-                answer: Ok(()),
-                marks: grown,
-            }
-        } else {
-            refused(Err(Refusal::Blocked), marks)
-        }
-    } else {
-        refused(Err(Refusal::WrongRing), marks)
+    if !ring_good(n, *marks) {
+        return Err(Refusal::WrongRing);
     }
+    if n - marks.held < message.len() {
+        return Err(Refusal::Blocked);
+    }
+    append(ring, marks, message);
+    Ok(())
 }
 
 // The same for a caller that has judged the ring and asked for room itself: the host, which judges once and not twice.
-pub fn append(ring: &mut [u8], marks: Marks, message: &[u8]) -> Marks
-    requires { (ring_good (length ring.old) marks ≡ true) × (length message.now ≤ free_bytes (length ring.old) marks) }
-    ensures { (result ≡ marks_with marks (length message.now)) × (ring.new ≡ ring_with ring.old marks message.now) }
+pub fn append(ring: &mut [u8], marks: &mut Marks, message: &[u8])
+    requires { (ring_good (length ring.old) marks.old ≡ true) × (length message.now ≤ free_bytes (length ring.old) marks.old) }
+    ensures marks_after { marks.new ≡ marks_with marks.old (length message.now) }
+    ensures ring_after { ring.new ≡ ring_with ring.old marks.old message.now }
 {
-    let at = marks.at;
-    let held = marks.held;
-    let place = around(ring.len(), at + held);
+    let place = around(ring.len(), marks.at + marks.held);
     copy_around(ring, place, message);
-    Marks {
-        at,
-        held: held + message.len(),
-    }
+    marks.held += message.len();
 }
 
 // Two unbroken copies, up to the ring's end and from its start, so that no byte has to be tested for the end.

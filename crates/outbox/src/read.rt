@@ -10,16 +10,13 @@ pub fn read(ring: &[u8], marks: Marks) -> &[u8]
     ensures { (result.now ≡ read_run ring.now marks) × (result.ref_ptr ≡ on_by (read_place (length ring.now) marks) ring.entry.ref_ptr) }
 {
     let n = ring.len();
-    if ring_good(n, marks) {
-        let at = marks.at;
-        let held = marks.held;
-        if held <= n - at {
-            let end = at + held;
-            &ring[at..end]
-        } else {
-            &ring[at..n]
-        }
+    if !ring_good(n, marks) {
+        return &ring[..0];
+    }
+    let Marks { at, held } = marks;
+    if held <= n - at {
+        &ring[at..at + held]
     } else {
-        &ring[..0]
+        &ring[at..n]
     }
 }

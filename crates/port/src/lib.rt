@@ -101,18 +101,13 @@ pub fn pq_release(n: usize, at: &mut usize, held: &mut usize, k: usize) -> u8
     ensures value { result ≡ answer_number (release_answer n (marks at.old held.old) k) }
     ensures marks_after { marks at.new held.new ≡ release_marks n (marks at.old held.old) k }
 {
-    let moved = release(
-        n,
-        Marks {
-            at: *at,
-            held: *held,
-        },
-        k,
-    );
-    let after = moved.marks;
-    *at = after.at;
-    *held = after.held;
-    let answer = moved.answer;
+    let mut marks = Marks {
+        at: *at,
+        held: *held,
+    };
+    let answer = release(n, &mut marks, k);
+    *at = marks.at;
+    *held = marks.held;
     number(answer)
 }
 

@@ -4,7 +4,7 @@
 
 ghost use Rattle.std.specs.Prelude.{◌≡◌, true, length};
 ghost use Rattle.answers.specs.Answer.{answer_number};
-ghost use Rattle.outbox.specs.Outbox.{put_moved, put_ring};
+ghost use Rattle.outbox.specs.Outbox.{put_answer, put_ring};
 ghost use Rattle.stocks.specs.Limits.{symbol_size};
 ghost use Rattle.stocks.specs.Stocks.{list_good, standing_in};
 ghost use Rattle.orders.specs.Wanted.{is_wanted};
@@ -66,11 +66,9 @@ pub fn pq_find_wanted(table: &[u8], firm: &[u8; 4], symbol: &[u8; 8], stocked: u
 
 // A message behind the held bytes; the caller counts them.
 pub fn pq_put(ring: &mut [u8], at: usize, held: usize, message: &[u8]) -> u8
-    ensures { (result ≡ answer_number (put_moved (length ring.old) (marks at held) (length message.now)).answer) × (ring.new ≡ put_ring ring.old (marks at held) message.now) }
+    ensures { (result ≡ answer_number (put_answer (length ring.old) (marks at held) (length message.now))) × (ring.new ≡ put_ring ring.old (marks at held) message.now) }
 {
-    let moved = put(ring, Marks { at, held }, message);
-    let answer = moved.answer;
-    number(answer)
+    number(put(ring, &mut Marks { at, held }, message))
 }
 
 // 1 for a right list of stocks, and 0.

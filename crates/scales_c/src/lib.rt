@@ -3,7 +3,7 @@
 
 ghost use Rattle.std.specs.Prelude.{◌≡◌, true, length};
 ghost use Rattle.answers.specs.Answer.{answer_number};
-ghost use Rattle.outbox.specs.Outbox.{put_moved, put_ring};
+ghost use Rattle.outbox.specs.Outbox.{put_answer, put_ring};
 ghost use Rattle.stocks.specs.Limits.{symbol_size};
 ghost use Rattle.stocks.specs.Stocks.{list_good, standing_in};
 ghost use Rattle.orders.specs.Wanted.{is_wanted};
@@ -44,7 +44,7 @@ pub extern "C" fn pq_find_wanted(
 // A message behind the held bytes; the caller counts them.
 #[unsafe(no_mangle)]
 pub extern "C" fn pq_put(ring: &mut [u8], at: usize, held: usize, message: &[u8]) -> u8
-    ensures { (result ≡ answer_number (put_moved (length ring.old) (marks at held) (length message.now)).answer) × (ring.new ≡ put_ring ring.old (marks at held) message.now) }
+    ensures { (result ≡ answer_number (put_answer (length ring.old) (marks at held) (length message.now))) × (ring.new ≡ put_ring ring.old (marks at held) message.now) }
 {
     scales::pq_put(ring, at, held, message)
 }

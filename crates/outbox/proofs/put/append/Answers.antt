@@ -12,29 +12,30 @@ use Rattle.outbox.proofs.put.append.Goals.{After-around-place}
 -- the place is in the ring
 place : (c : After-around-place) → c.around-place.result < length c.args.ring.now
 place c =
-    let s = c in
-    let r = right _ _ s.requires.0 in
-    rw c.around-place.ensures (around-below (length s.args.ring.now) (s.args.marks.at + s.args.marks.held) (omega arith))
+    let a = c.args in
+    let r = right _ _ c.requires.0 in
+    rw c.around-place.ensures (around-below (length a.ring.now) (a.marks.now.at + a.marks.now.held) (omega arith))
+
+pub overflow_add-marks : goal.overflow_add-marks
+overflow_add-marks c = omega (arith, right _ _ c.requires.0)
 
 pub copy_around-requires : goal.copy_around-requires
 unfolding free_bytes
 copy_around-requires c = (omega (arith, place (goal.at.copy_around-requires c).After-around-place), omega (arith, c.requires.1))
 
-pub overflow_add-result : goal.overflow_add-result
+pub overflow_add-marks-2 : goal.overflow_add-marks-2
 unfolding free_bytes
-overflow_add-result c = let s = c in omega (arith, right _ _ s.requires.0, s.requires.1)
+overflow_add-marks-2 c = omega (arith, right _ _ c.requires.0, c.requires.1)
 
-pub returns : goal.returns
+pub returns-clause-marks_after : goal.returns-clause-marks_after
 unfolding marks_with
-returns c =
-    let s = c in
-    let ring = s.args.ring.now in
-    let message = s.args.message.now in (
-      refl,
-      c.copy_around.ensures
-          ∙ ap (λ (p : ℕ). in_two_runs ring p message) c.around-place.ensures
-          ∙ sym (two_runs ring s.args.marks message (fits-free ring s.args.marks message s.requires.0 s.requires.1)),
-    )
+returns-clause-marks_after c = refl
 
-pub overflow_add-at : goal.overflow_add-at
-overflow_add-at c = omega (arith, right _ _ c.requires.0)
+pub returns-clause-ring_after : goal.returns-clause-ring_after
+returns-clause-ring_after c =
+    let a = c.args in
+    let ring = a.ring.now in
+    let message = a.message.now in
+    c.copy_around.ensures
+    ∙ ap (λ (p : ℕ). in_two_runs ring p message) c.around-place.ensures
+    ∙ sym (two_runs ring a.marks.now message (fits-free ring a.marks.now message c.requires.0 c.requires.1))

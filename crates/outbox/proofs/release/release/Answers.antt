@@ -4,22 +4,29 @@ use Rattle.answers.specs.Answer.{is_done, if_done}
 use Rattle.outbox.specs.Outbox.{ring_good, release_answer, marks_without, release_marks}
 use Rattle.outbox.proofs.Right.{right}
 use Rattle.outbox.proofs.release.release.Goals as goal
-use Rattle.outbox.proofs.release.release.Goals.{Then-ring_good}
+use Rattle.outbox.proofs.release.release.Goals.{Else-not-ring_good}
 
-good : (c : Then-ring_good) → ring_good c.args.n c.args.marks ≡ true
-good c = sym c.ring_good.ensures ∙ c.if-ring_good.true
+good : (c : Else-not-ring_good) → ring_good c.args.n c.args.marks.now ≡ true
+good c = sym c.ring_good.ensures ∙ c.if-not-ring_good.false
 
-pub returns-then-k-held : goal.returns-then-k-held
+pub returns-then-not-ring_good : goal.returns-then-not-ring_good
+unfolding release_answer release_marks if_done is_done
+returns-then-not-ring_good c =
+    let bad = sym c.ring_good.ensures ∙ c.if-not-ring_good.true in record { value = simp bad; marks_after = simp bad }
+
+pub returns-then-marks-k : goal.returns-then-marks-k
+unfolding release_answer release_marks if_done is_done
+returns-then-marks-k c =
+    let good = good (goal.at.returns-then-marks-k c).Else-not-ring_good in
+    let short = lt-ltb _ _ c.if-marks-k.true in
+    record { value = simp (good, short); marks_after = simp (good, short) }
+
+pub overflow_add-marks : goal.overflow_add-marks
+overflow_add-marks c = omega (arith, right _ _ (good (goal.at.overflow_add-marks c).Else-not-ring_good))
+
+pub returns : goal.returns
 unfolding release_answer release_marks marks_without if_done is_done
-returns-then-k-held c = simp (good (goal.at.returns-then-k-held c).Then-ring_good, le-ltb _ _ c.if-k-held.true, c.around.ensures)
-
-pub returns-else-k-held : goal.returns-else-k-held
-unfolding release_answer release_marks marks_without if_done is_done
-returns-else-k-held c = simp (good (goal.at.returns-else-k-held c).Then-ring_good, lt-ltb _ _ c.if-k-held.false) c.refused.ensures
-
-pub returns-else-ring_good : goal.returns-else-ring_good
-unfolding release_answer release_marks marks_without if_done is_done
-returns-else-ring_good c = simp (sym c.ring_good.ensures ∙ c.if-ring_good.false) c.refused-else-ring_good.ensures
-
-pub overflow_add-at : goal.overflow_add-at
-overflow_add-at c = omega (arith, right _ _ (good (goal.at.overflow_add-at c).Then-ring_good))
+returns c =
+    let good = good (goal.at.returns c).Else-not-ring_good in
+    let enough = le-ltb _ _ c.if-marks-k.false in
+    record { value = simp (good, enough); marks_after = simp (good, enough, c.around.ensures) }
