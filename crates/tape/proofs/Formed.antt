@@ -2,10 +2,8 @@
 use Rattle.octets.proofs.Proving.{Bool, List, ◌∙◌, ◌∷◌, ◌≡◌, ◌≤◌, ap, arith, eqb, eqb-false, eqb-true, false, get_or, length, not, not-true, refl, sym, true, ℕ}
 use Rattle.octets.proofs.Below.{both}
 use Rattle.answers.specs.Answer.{Malformed, Done}
-use Rattle.wire.specs.Layout.{stamp_at, place, bad_place, first_bad_place, unbroken}
-use Rattle.wire.specs.Messages.{place_answer}
-use Rattle.wire.proofs.Found.{not-at-0}
-use Rattle.wire.proofs.Verdicts.{told}
+use Rattle.wire.specs.Layout.{stamp_at, bad_place, first_bad_place, unbroken}
+use Rattle.wire.specs.Messages.{bad_at◌⨾◌}
 use Rattle.tape.specs.Kinds.{Kind, Enters, Replaces, Cancels, Modifies, Executes, BookCancels, SelfMatches, Prioritises, TurnsLate, EndsCross, TellsDay, SetsStock, Purges, Disables, Enables, Unknown, kind_by, kind_of, layout_of, purge_entry}
 use Rattle.tape.specs.Entries.{well_formed, bad_place_of, entry_answer, purges}
 use Rattle.tape.specs.Behind.{behind_of, judged_fields, Within}
@@ -122,9 +120,9 @@ well-laid Unknown h = absurd (h refl)
 
 -- ---- 2, 3 or neither
 
-pub answer-judged : (s : List ℕ) → well_formed s ≡ true → place_answer (place (bad_place_of s)) Done ≡ entry_answer s
+pub answer-judged : (s : List ℕ) → well_formed s ≡ true → (bad_at bad_place_of s ⨾ Done) ≡ entry_answer s
 unfolding entry_answer bad_place_of
-answer-judged s w = told (bad_place_of s) Done (not-at-0 (layout_of (kind_of s)).fields (layout_of (kind_of s)).size (well-laid (kind_of s) (formed s w).known) s) ∙ sym (rw w)
+answer-judged s w = sym (rw w)
 
 pub answer-malformed : (s : List ℕ) → well_formed s ≡ false → Malformed ≡ entry_answer s
 unfolding entry_answer

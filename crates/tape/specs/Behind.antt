@@ -1,16 +1,17 @@
 -- What is judged behind an entry's stamp, by kind. This is about inner functions: that each kind's layout judges just this is proved.
 use Rattle.std.specs.Prelude.{ℕ, ◌+◌, ◌<◌, ◌≤◌, List, [], ◌∷◌}
 use Rattle.wire.specs.Layout.{Field, token_at, liquidity_at, book_reason_at, system_event_at, stock_state_at, limit_price_at}
-use Rattle.wire.specs.Messages.{message_layout, fields_from}
+use Rattle.wire.specs.Messages.{message_layout, number, fields_from}
+use Rattle.wire.specs.declared.messages.Message.TheVariants as message
 use Rattle.tape.specs.Kinds.{Kind, Enters, Replaces, Cancels, Modifies, Executes, BookCancels, SelfMatches, Prioritises, TurnsLate, EndsCross, TellsDay, SetsStock, Purges, Disables, Enables, Unknown}
 pub use Rattle.tape.specs.declared.judging.Behind.{Behind}
 pub use Rattle.tape.specs.declared.judging.Behind.TheVariants.{Message, Token, Flag, Reason, Price, Event, State, Nothing}
 
 abbrev pub behind_of : Kind → Behind
-behind_of Enters = Message 0
-behind_of Replaces = Message 1
-behind_of Cancels = Message 2
-behind_of Modifies = Message 3
+behind_of Enters = Message message.EnterOrder
+behind_of Replaces = Message message.ReplaceOrder
+behind_of Cancels = Message message.CancelOrder
+behind_of Modifies = Message message.ModifyOrder
 behind_of Executes = Flag 31
 behind_of BookCancels = Reason 27
 behind_of SelfMatches = Flag 35
@@ -25,7 +26,7 @@ behind_of Enables = Nothing
 behind_of Unknown = Nothing
 
 abbrev pub judged_fields : Behind → List Field
-judged_fields (Message k) = fields_from 8 k
+judged_fields (Message m) = fields_from 8 (number m)
 judged_fields Token = token_at 9 ∷ []
 judged_fields (Flag at) = token_at 9 ∷ liquidity_at at ∷ []
 judged_fields (Reason at) = token_at 9 ∷ book_reason_at at ∷ []
@@ -36,7 +37,7 @@ judged_fields Nothing = []
 
 -- they lie in an entry of n bytes
 abbrev pub Within : Behind → ℕ → Type 0
-Within (Message k) n = (k < 4) × ((message_layout k).size + 8 ≤ n)
+Within (Message m) n = (number m < 4) × ((message_layout (number m)).size + 8 ≤ n)
 Within Token n = 23 ≤ n
 Within (Flag at) n = (23 ≤ n) × (at < n)
 Within (Reason at) n = (23 ≤ n) × (at < n)

@@ -1,6 +1,6 @@
 // Judging an entry: is its kind known and its length the kind's, and if so, where does its first bad byte stand, if there is one.
 ghost use Rattle.std.specs.Prelude.{◌≡◌, true, length};
-ghost use Rattle.wire.specs.Layout.{place, first_bad_place};
+ghost use Rattle.wire.specs.Layout.{first_bad_place};
 ghost use Rattle.tape.specs.Kinds.{kind_of};
 ghost use Rattle.tape.specs.Entries.{well_formed, bad_place_of, entry_answer};
 ghost use Rattle.tape.specs.Behind.{behind_of, judged_fields, Within};
@@ -8,10 +8,10 @@ ghost use Rattle.tape.specs.Behind.{behind_of, judged_fields, Within};
 use crate::kinds::{Kind, kind_of, length_of};
 use answers::{Answer, Refusal};
 use wire::judge::bad_inbound;
-use wire::messages::{CANCEL_ORDER, ENTER_ORDER, MODIFY_ORDER, REPLACE_ORDER};
+use wire::messages::Message;
 use wire::places::{
-    NOWHERE, answer_for, bad_book_reason, bad_limit_price, bad_liquidity_flag, bad_stamp,
-    bad_stock_state, bad_system_event, bad_token, earlier,
+    bad_book_reason, bad_limit_price, bad_liquidity_flag, bad_stamp, bad_stock_state,
+    bad_system_event, bad_token, unless_bad,
 };
 
 // 2 for a kind or a length, 3 where there is a first bad place, with that place.
@@ -20,7 +20,7 @@ pub fn judge(entry: &[u8]) -> Answer
 {
     let kind = kind_of(entry);
     if well_formed(entry, kind) {
-        return answer_for(first_bad(entry, kind), Ok(()));
+        return unless_bad(first_bad(entry, kind));
     }
     Err(Refusal::Malformed)
 }
@@ -35,18 +35,18 @@ fn well_formed(entry: &[u8], kind: Kind) -> bool
 }
 
 // Every body opens with a stamp.
-fn first_bad(entry: &[u8], kind: Kind) -> usize
+fn first_bad(entry: &[u8], kind: Kind) -> Option<usize>
     requires { (kind ≡ kind_of entry.now) × (well_formed entry.now ≡ true) }
-    ensures { result ≡ place (bad_place_of entry.now) }
+    ensures { result ≡ bad_place_of entry.now }
 {
-    earlier(bad_stamp(entry, 1), bad_behind(entry, behind_of(kind)))
+    bad_stamp(entry, 1).or(bad_behind(entry, behind_of(kind)))
 }
 
 // The judged fields behind the stamp: what they are and, where that differs from kind to kind, where they stand.
 #[derive(Clone, Copy)]
 pub enum Behind {
     // what a client sends, judged as the message that it is
-    Message(usize),
+    Message(Message),
     // a token, alone or before a flag, a reason or a price
     Token,
     Flag(usize),
@@ -64,10 +64,10 @@ fn behind_of(kind: Kind) -> Behind
     ensures { result ≡ behind_of kind }
 {
     match kind {
-        Kind::Enters => Behind::Message(ENTER_ORDER),
-        Kind::Replaces => Behind::Message(REPLACE_ORDER),
-        Kind::Cancels => Behind::Message(CANCEL_ORDER),
-        Kind::Modifies => Behind::Message(MODIFY_ORDER),
+        Kind::Enters => Behind::Message(Message::EnterOrder),
+        Kind::Replaces => Behind::Message(Message::ReplaceOrder),
+        Kind::Cancels => Behind::Message(Message::CancelOrder),
+        Kind::Modifies => Behind::Message(Message::ModifyOrder),
         Kind::Executes => Behind::Flag(31),
         Kind::BookCancels => Behind::Reason(27),
         Kind::SelfMatches => Behind::Flag(35),
@@ -83,18 +83,18 @@ fn behind_of(kind: Kind) -> Behind
     }
 }
 
-fn bad_behind(entry: &[u8], behind: Behind) -> usize
+fn bad_behind(entry: &[u8], behind: Behind) -> Option<usize>
     requires { Within behind (length entry.now) }
-    ensures { result ≡ place (first_bad_place (judged_fields behind) entry.now) }
+    ensures { result ≡ first_bad_place (judged_fields behind) entry.now }
 {
     match behind {
-        Behind::Message(k) => bad_inbound(entry, 8, k),
+        Behind::Message(m) => bad_inbound(entry, 8, m),
         Behind::Token => bad_token(entry, 9),
-        Behind::Flag(at) => earlier(bad_token(entry, 9), bad_liquidity_flag(entry, at)),
-        Behind::Reason(at) => earlier(bad_token(entry, 9), bad_book_reason(entry, at)),
-        Behind::Price => earlier(bad_token(entry, 9), bad_limit_price(entry, 23)),
+        Behind::Flag(at) => bad_token(entry, 9).or(bad_liquidity_flag(entry, at)),
+        Behind::Reason(at) => bad_token(entry, 9).or(bad_book_reason(entry, at)),
+        Behind::Price => bad_token(entry, 9).or(bad_limit_price(entry, 23)),
         Behind::Event => bad_system_event(entry, 9),
         Behind::State => bad_stock_state(entry, 17),
-        Behind::Nothing => NOWHERE,
+        Behind::Nothing => None,
     }
 }

@@ -5,11 +5,12 @@ ghost use Rattle.tape.specs.Entries.{stamp_of, token_end, names_order, token_of,
 use crate::entry::{
     Blocking, BookCancel, Execution, Priority, Purge, SelfMatch, StockState, System,
 };
-use inbound::cancel_order::{CancelOrder, parse_cancel_order};
-use inbound::enter_order::{EnterOrder, parse_enter_order};
-use inbound::modify_order::{ModifyOrder, parse_modify_order};
-use inbound::replace_order::{ReplaceOrder, parse_replace_order};
+use inbound::cancel_order::CancelOrder;
+use inbound::enter_order::EnterOrder;
+use inbound::modify_order::ModifyOrder;
+use inbound::replace_order::ReplaceOrder;
 use octets::{be32, be64, byte_at, bytes_at};
+use wire::body::Body;
 use wire::shares::Removed;
 
 // Every body opens with a stamp.
@@ -140,26 +141,26 @@ pub fn enter_of(entry: &[u8]) -> EnterOrder
     requires { length entry.now ≡ 56 }
     ensures { result ≡ enter_of entry.now }
 {
-    parse_enter_order(message_in(entry))
+    EnterOrder::parse(message_in(entry))
 }
 
 pub fn replace_of(entry: &[u8]) -> ReplaceOrder
     requires { length entry.now ≡ 55 }
     ensures { result ≡ replace_of entry.now }
 {
-    parse_replace_order(message_in(entry))
+    ReplaceOrder::parse(message_in(entry))
 }
 
 pub fn cancel_of(entry: &[u8]) -> CancelOrder
     requires { length entry.now ≡ 27 }
     ensures { result ≡ cancel_of entry.now }
 {
-    parse_cancel_order(message_in(entry))
+    CancelOrder::parse(message_in(entry))
 }
 
 pub fn modify_of(entry: &[u8]) -> ModifyOrder
     requires { length entry.now ≡ 28 }
     ensures { result ≡ modify_of entry.now }
 {
-    parse_modify_order(message_in(entry))
+    ModifyOrder::parse(message_in(entry))
 }

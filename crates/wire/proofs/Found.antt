@@ -17,6 +17,12 @@ pub in_turn : (a b c : Option ℕ) → option_or (option_or a b) c ≡ option_or
 in_turn None b c = refl
 in_turn (Some at) b c = refl
 
+-- a field, and what was found behind it
+pub behind : (f : Field) (fs : List Field) (s : List ℕ) {r p q : Option ℕ} → r ≡ option_or p q → Finds f s p → q ≡ first_bad_place fs s
+    → r ≡ first_bad_place (f ∷ fs) s
+unfolding first_bad_place
+behind f fs s e x y = e ∙ ap₂ option_or x y
+
 -- one field, two, or three in a row
 
 pub one : (f : Field) (s : List ℕ) {r : Option ℕ} → Finds f s r → r ≡ first_bad_place (f ∷ []) s

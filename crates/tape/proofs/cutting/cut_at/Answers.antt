@@ -1,5 +1,5 @@
 -- Each return is the guard of `cut_at` that its tests led to; the length is what the kind byte fixes. Assumes nothing.
-use Rattle.octets.proofs.Proving.{◌-◌, ◌∙◌, eq-eqb, le-leb, le-ltb, lt-leb, lt-ltb, ne_eqb, sym}
+use Rattle.octets.proofs.Proving.{◌∙◌, eq-eqb, le-leb, le-ltb, lt-leb, lt-ltb, ne_eqb, sym}
 use Rattle.tape.specs.Cutting.{cut_at}
 use Rattle.tape.proofs.cutting.cut_at.Goals as goal
 

@@ -1,6 +1,6 @@
 -- A stamp, and what is judged behind it. Assumes nothing.
-use Rattle.octets.proofs.Proving.{◌∙◌, ap, arith, sym}
-use Rattle.wire.specs.Layout.{stamp_at, place}
+use Rattle.octets.proofs.Proving.{◌∙◌, ap, sym}
+use Rattle.wire.specs.Layout.{stamp_at}
 use Rattle.wire.proofs.Found.{behind}
 use Rattle.tape.specs.Kinds.{kind_of}
 use Rattle.tape.specs.Entries.{bad_place_of}
@@ -21,9 +21,9 @@ returns c =
     let p = c in
     let s = p.args.entry.now in
     let b = c.behind_of.ensures ∙ ap behind_of p.requires.0 in
-    behind (stamp_at 1) (judged_fields (behind_of (kind_of s))) s (omega arith) c.earlier.ensures c.bad_stamp.ensures
+    behind (stamp_at 1) (judged_fields (behind_of (kind_of s))) s c.or.ensures c.bad_stamp.ensures
     (rw b at c.bad_behind.ensures)
-    ∙ sym (ap place (judged (kind_of s) s (formed s p.requires.1).known))
+    ∙ sym (judged (kind_of s) s (formed s p.requires.1).known)
 
 pub bad_stamp-requires : goal.bad_stamp-requires
 bad_stamp-requires c = stamp-fits _ c.requires.1

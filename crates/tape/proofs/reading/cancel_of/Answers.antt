@@ -6,4 +6,4 @@ use Rattle.tape.proofs.reading.cancel_of.Goals as goal
 
 pub returns : goal.returns
 unfolding cancel_of
-returns c = c.parse_cancel_order.ensures ∙ ap cancel_order_of c.message_in.ensures.0
+returns c = c.parse.ensures ∙ ap cancel_order_of c.message_in.ensures.0

@@ -6,4 +6,4 @@ use Rattle.tape.proofs.reading.enter_of.Goals as goal
 
 pub returns : goal.returns
 unfolding enter_of
-returns c = c.parse_enter_order.ensures ∙ ap enter_order_of c.message_in.ensures.0
+returns c = c.parse.ensures ∙ ap enter_order_of c.message_in.ensures.0

@@ -6,4 +6,4 @@ use Rattle.tape.proofs.reading.modify_of.Goals as goal
 
 pub returns : goal.returns
 unfolding modify_of
-returns c = c.parse_modify_order.ensures ∙ ap modify_order_of c.message_in.ensures.0
+returns c = c.parse.ensures ∙ ap modify_order_of c.message_in.ensures.0

@@ -6,4 +6,4 @@ use Rattle.tape.proofs.reading.replace_of.Goals as goal
 
 pub returns : goal.returns
 unfolding replace_of
-returns c = c.parse_replace_order.ensures ∙ ap replace_order_of c.message_in.ensures.0
+returns c = c.parse.ensures ∙ ap replace_order_of c.message_in.ensures.0

@@ -1,6 +1,6 @@
 -- What is spelled is sent whole, at its length. Assumes nothing.
 use Rattle.notices.proofs.Whole.{whole}
-use Rattle.notices.proofs.system_event_sent.Goals as goal
+use Rattle.notices.proofs.whole.Goals as goal
 
 pub returns : goal.returns
-returns c = whole _ c.spell_system_event-bytes.ensures c.size-len.ensures
+returns g c = whole _ c.spell.ensures c.size.ensures.0

@@ -1,6 +1,0 @@
--- What is spelled is sent whole, at its length. Assumes nothing.
-use Rattle.notices.proofs.Whole.{whole}
-use Rattle.notices.proofs.cancel_pending_sent.Goals as goal
-
-pub returns : goal.returns
-returns c = whole _ c.spell_cancel_pending-bytes.ensures c.size-len.ensures
