@@ -3,6 +3,7 @@
 use Rattle.octets.proofs.Proving.{Bool, List, [], ◌-◌, ◌<◌, ◌∙◌, ◌∷◌, ◌≡◌, ◌≤◌, ap, ap₂, arith, eqb, eqb-true, false, false≢true, le-ltb, le_refl, length, lt-ltb, ltb-true, refl, sub_self, subst, sym, true, ℕ}
 use Rattle.octets.specs.Choice.{pick}
 use Rattle.answers.specs.Answer.{answer_number, is_done}
+use Rattle.answers.proofs.Laws.{done-is-0}
 use Rattle.tape.specs.Entries.{stamp_of}
 use Rattle.notices.specs.Notices.{message}
 use Rattle.outbox.specs.Outbox.{free_bytes, marks_without}
@@ -62,10 +63,9 @@ stays-ready w s ok =
 
 -- a blocked entry leaves everything as it was
 pub blocked-stays : (w : World) (s : List ℕ) → is_blocked (step w s).answer ≡ true → (step w s).world ≡ w
-unfolding is_done
 blocked-stays w s b =
     let e = eqb-true (answer_number (step w s).answer) (answer_number Blocked) b in
-    only-done-changes w s (ap (λ (n : ℕ). eqb n 0) e)
+    only-done-changes w s (done-is-0 (step w s).answer ∙ ap (λ (n : ℕ). eqb n 0) e)
 
 -- ---- a driver that empties the outbox after each block
 

@@ -1,6 +1,6 @@
 -- The stream is whole messages: every message of a play is legal for its reader, and cutting the bytes by the lengths that the types fix
 -- gives exactly the messages back. Assumes nothing.
-use Rattle.octets.proofs.Proving.{Bool, List, [], ◌&&◌, ◌++◌, ◌+◌, ◌<◌, ◌||◌, ◌∙◌, ◌∷◌, ◌≡◌, ◌≤◌, ap, ap₂, arith, drop_at, eqb, eqb-true, false, get_or, le-ltb, length, length-append, ltb, ltb-true, refl, subst, suc, sym, take_at, true, zero, ℕ}
+use Rattle.octets.proofs.Proving.{Bool, List, [], ◌&&◌, ◌++◌, ◌<◌, ◌||◌, ◌∙◌, ◌∷◌, ◌≡◌, ◌≤◌, ap, ap₂, arith, drop_at, eqb, eqb-true, false, get_or, le-ltb, length, length-append, ltb, ltb-true, refl, subst, suc, sym, take_at, true, zero, ℕ}
 use Rattle.octets.specs.Choice.{all_below}
 use Rattle.octets.specs.Bytes.{joined}
 use Rattle.octets.proofs.Below.{all-at, both}
