@@ -1,14 +1,25 @@
 -- A rule whose checks come to an answer: the plan where that is Done, and else the refusal. Assumes nothing.
-use Rattle.octets.proofs.Proving.{Bool, ◌∙◌, ◌≡◌, false, sym, true}
-use Rattle.answers.specs.Answer.{is_done}
-use Rattle.rules.specs.Plan.{allowed, refused}
-use Rattle.rules.specs.Types.{Answer, Decision}
+use Rattle.std.specs.Prelude.{Ok, Err}
+use Rattle.octets.proofs.Proving.{◌≡◌, refl}
+use Rattle.answers.specs.Answer.{Answer, Done, is_done}
+use Rattle.rules.specs.Plan.{allowed, answer_of, plan_of, empty_plan, refused}
+use Rattle.rules.specs.Types.{Refusal, Decision}
 
-pub allowed-done : {a b : Answer} {r : Bool} {d x : Decision} → r ≡ is_done a → r ≡ true → a ≡ b → x ≡ d → x ≡ allowed b d
-unfolding allowed
-allowed-done promise test same e = rw (← same, sym promise ∙ test) e
+pub allowed-done : {a : Answer} {d x : Decision} → a ≡ Done → x ≡ d → x ≡ allowed a d
+unfolding allowed is_done
+allowed-done is e = rw is e
 
-pub allowed-refused : {a b : Answer} {r : Bool} {x : Decision} (d : Decision) → r ≡ is_done a → r ≡ false → a ≡ b → x ≡ refused a
-    → x ≡ allowed b d
-unfolding allowed
-allowed-refused d promise test same e = rw (← same, sym promise ∙ test) e
+pub allowed-refused : {a : Answer} {r : Refusal} (d : Decision) → a ≡ Err r → Err r ≡ allowed a d
+unfolding allowed is_done refused
+allowed-refused d is = rw is
+
+-- what was refused has the answer that it was refused with, and a plan that changes nothing
+pub answer-of-refused : (a : Answer) → answer_of (refused a) ≡ a
+unfolding refused
+answer-of-refused (Ok tt) = refl
+answer-of-refused (Err r) = refl
+
+pub plan-of-refused : (a : Answer) → plan_of (refused a) ≡ empty_plan
+unfolding refused
+plan-of-refused (Ok done) = refl
+plan-of-refused (Err r) = refl

@@ -1,4 +1,4 @@
-pub mod Prices
+pub mod Opened
 pub mod Allowed
 pub mod Heard
 pub mod Unique
