@@ -1,4 +1,4 @@
 pub mod Opened
-pub mod Allowed
+pub mod Refused
 pub mod Heard
 pub mod Unique
