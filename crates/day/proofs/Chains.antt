@@ -17,13 +17,14 @@ use Rattle.wire.proofs.NoneBad.{legal_token as judged_token}
 use Rattle.table.proofs.Soundness.{Sound}
 use Rattle.table.proofs.Finding.{found}
 use Rattle.tape.specs.Entries.{stamp_of}
-use Rattle.rules.specs.declared.plan.Decision.{Decision}
+use Rattle.rules.specs.Types.{Decision}
 use Rattle.rules.specs.declared.plan.Notice.{Notice}
 use Rattle.rules.specs.declared.plan.Notice.TheVariants.{Accepted, AiqCancelled, CancelPending, CancelReject, Canceled, Executed, Modified, PriorityUpdate, Rejected, Replaced, Silent, SystemEvent}
 use Rattle.rules.specs.declared.plan.Plan.{Plan}
 use Rattle.laws.proofs.Shapes.{Changed, Born, told_executed, of_none, subject, Shape, nobody, changes, accepts, rejects, replaces}
 use Rattle.notices.specs.Notices.{message}
 use Rattle.laws.proofs.Standing.{live_state, executed-most, standing-used}
+use Rattle.rules.specs.Plan.{answer_of, plan_of}
 use Rattle.host.specs.Step.{Books, one_if, books_after, comes_to}
 use Rattle.laws.proofs.Given.{from_is, live-there, shaped-none, none-unused}
 use Rattle.laws.proofs.Sounds.{S, P, K, p, place, o as named_order, one}
@@ -55,7 +56,7 @@ nobody-tells Modified of = refl
 
 -- ---- one done entry
 
-module _ (books : Books) (s : List ℕ) (ok : sound books.table ≡ true) (done : is_done (comes_to books s).answer ≡ true) (past : List (List ℕ))
+module _ (books : Books) (s : List ℕ) (ok : sound books.table ≡ true) (done : is_done (answer_of (comes_to books s)) ≡ true) (past : List (List ℕ))
     (ledger : Ledger books.table past)
   where
     abbrev t : List ℕ
@@ -203,10 +204,10 @@ module _ (books : Books) (s : List ℕ) (ok : sound books.table ≡ true) (done 
         (speaking c')
 
     -- the table and the messages as a play has them
-    pub turned : Ledger (books_with books s (comes_to books s).plan).table (past ++ telling (message (stamp_of s) (comes_to books s).plan) [])
+    pub turned : Ledger (books_with books s (plan_of (comes_to books s))).table (past ++ telling (message (stamp_of s) (plan_of (comes_to books s))) [])
     unfolding books_after
     turned =
-        subst (λ (d : Decision). Ledger (books_with books s d.plan).table (past ++ telling (message (stamp_of s) d.plan) [])) (sym (P books s ok done).is)
+        subst (λ (d : Decision). Ledger (books_with books s (plan_of d)).table (past ++ telling (message (stamp_of s) (plan_of d)) [])) (sym (P books s ok done).is)
         (by_shape (K books s ok done).1.1.shape)
 
 -- ---- any tape

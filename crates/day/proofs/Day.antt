@@ -17,8 +17,9 @@ use Rattle.laws.proofs.Sounds.{keeps}
 use Rattle.laws.proofs.Halted.{stays-good}
 use Rattle.laws.proofs.Comes.{unblocked}
 use Rattle.answers.specs.Answer.{Answer}
-use Rattle.rules.specs.declared.plan.Decision.{Decision}
+use Rattle.rules.specs.Types.{Decision}
 use Rattle.rules.specs.declared.plan.Plan.{Plan}
+use Rattle.rules.specs.Plan.{answer_of, plan_of}
 use Rattle.host.specs.Step.{World, Outcome, named_place, comes_to, no_room, step, books_after, world_after}
 use Rattle.laws.proofs.Steps.{step_by, step_by_lem, comes, full}
 use Rattle.table.proofs.Soundness.{of-sound}
@@ -35,11 +36,11 @@ joined-telling [] ms = refl
 joined-telling (b ∷ bs) ms = refl
 
 -- over a sound table, a right ring and a right list only two questions are left
-pub as-judged : (w : World) (s : List ℕ) → Ready w → step w s ≡ step_by w s (comes w s) true true true (is_done (comes w s).answer) (full w s)
+pub as-judged : (w : World) (s : List ℕ) → Ready w → step w s ≡ step_by w s (comes w s) true true true (is_done (answer_of (comes w s))) (full w s)
 as-judged w s ok =
     step_by_lem w s
-    ∙ ap₂ (λ (t r : Bool). step_by w s (comes w s) t r (list_good w.books.stocks) (is_done (comes w s).answer) (full w s)) ok.table ok.ring
-    ∙ ap (λ (l : Bool). step_by w s (comes w s) true true l (is_done (comes w s).answer) (full w s)) ok.stocks
+    ∙ ap₂ (λ (t r : Bool). step_by w s (comes w s) t r (list_good w.books.stocks) (is_done (answer_of (comes w s))) (full w s)) ok.table ok.ring
+    ∙ ap (λ (l : Bool). step_by w s (comes w s) true true l (is_done (answer_of (comes w s))) (full w s)) ok.stocks
 
 nothing : (l : List ℕ) → length l ≡ 0 → l ≡ []
 nothing [] h = refl
@@ -87,11 +88,11 @@ module _ (w : World) (s : List ℕ) (ss : List (List ℕ)) (go : World → List 
   abbrev outcome : Bool → Bool → Outcome
   outcome done full = step_by w s (comes_to w.books s) true true true done full
 
-  play-more : is_done d.answer ≡ true → unlimited w.books (s ∷ ss) ≡ play_on w.books s d true (λ b'. unlimited b' ss)
+  play-more : is_done (answer_of d) ≡ true → unlimited w.books (s ∷ ss) ≡ play_on w.books s d true (λ b'. unlimited b' ss)
   unfolding unlimited d
   play-more e = ap (λ (b : Bool). play_on w.books s (comes_to w.books s) b (λ b'. unlimited b' ss)) e
 
-  by : (done full : Bool) → is_done d.answer ≡ done → no_room w (stamp_of s) d.plan ≡ full
+  by : (done full : Bool) → is_done (answer_of d) ≡ done → no_room w (stamp_of s) (plan_of d) ≡ full
       → Kept (bytes w) (play_on w.books s d done (λ b'. unlimited b' ss)) (offered s ss (outcome done full) (is_blocked (outcome done full).answer) go)
   unfolding d world_after books_after
   by false full e f =
@@ -99,14 +100,14 @@ module _ (w : World) (s : List ℕ) (ss : List (List ℕ)) (go : World → List 
       rw (unblocked w.books s (of-sound w.books.table ok.table))
       (record {
         ready = k.ready;
-        answers = ap (λ (l : List Answer). d.answer ∷ l) k.answers;
+        answers = ap (λ (l : List Answer). answer_of d ∷ l) k.answers;
         books = k.books;
         messages = k.messages;
       })
   by true true e f =
       subst (λ (p : Played). Kept (bytes w) p (go w (s ∷ ss))) (play-more e) (rest w (s ∷ ss) ok)
   by true false e f =
-      let p = d.plan in
+      let p = plan_of d in
       let m = message (stamp_of s) p in
       let after : World = world_after w (named_place w.books.table s) (stamp_of s) p in
       let k = rest after ss record {
@@ -117,7 +118,7 @@ module _ (w : World) (s : List ℕ) (ss : List (List ℕ)) (go : World → List 
       let later = (unlimited (books_with w.books s p) ss).messages in
       record {
         ready = k.ready;
-        answers = ap₂ ◌∷◌ (sym (is-done d.answer e)) k.answers;
+        answers = ap₂ ◌∷◌ (sym (is-done (answer_of d) e)) k.answers;
         books = k.books;
         messages = k.messages
             ∙ ap (λ (b : List ℕ). b ++ joined later) (bytes_after w (named_place w.books.table s) (stamp_of s) p ok.ring f)
@@ -127,7 +128,7 @@ module _ (w : World) (s : List ℕ) (ss : List (List ℕ)) (go : World → List 
 
   pub offered-keeps : Kept (bytes w) (unlimited w.books (s ∷ ss)) (offered s ss (step w s) (is_blocked (step w s).answer) go)
   unfolding unlimited d
-  offered-keeps = rw (as-judged w s ok) (by (is_done d.answer) (no_room w (stamp_of s) d.plan) refl refl)
+  offered-keeps = rw (as-judged w s ok) (by (is_done (answer_of d)) (no_room w (stamp_of s) (plan_of d)) refl refl)
 
 -- ---- a release between
 

@@ -7,6 +7,7 @@ use Rattle.table.specs.Table.{header, order_at, sound}
 use Rattle.tape.specs.Kinds.{kind_of}
 use Rattle.tape.specs.declared.kinds.Kind.TheVariants.{Cancels}
 use Rattle.tape.specs.Entries.{cancel_of}
+use Rattle.rules.specs.Plan.{answer_of, plan_of}
 use Rattle.host.specs.Step.{Books, World, books_after, comes_to, step}
 use Rattle.laws.specs.Cancels.{executions_plus_open, its_place, LeavesLive}
 use Rattle.laws.proofs.Records.{Face, open_in, left-used, each-record}
@@ -26,8 +27,8 @@ abbrev limit_in : Face → ℕ
 limit_in f = f.executed + open_in f
 
 -- one done entry
-limited-on : (i n : ℕ) (b : Books) (s : List ℕ) → sound b.table ≡ true → is_done (comes_to b s).answer ≡ true → Limited i n b.table
-    → Limited i n (books_with b s (comes_to b s).plan).table
+limited-on : (i n : ℕ) (b : Books) (s : List ℕ) → sound b.table ≡ true → is_done (answer_of (comes_to b s)) ≡ true → Limited i n b.table
+    → Limited i n (books_with b s (plan_of (comes_to b s))).table
 unfolding executions_plus_open open_shares gone books_after
 limited-on i n b s ok done h =
     subst (Limited i n) (left_is_lem b s ok done)

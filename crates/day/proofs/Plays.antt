@@ -5,6 +5,7 @@ use Rattle.table.specs.Table.{sound}
 use Rattle.tape.specs.Entries.{stamp_of}
 use Rattle.notices.specs.Notices.{message}
 use Rattle.stocks.specs.Stocks.{list_good}
+use Rattle.rules.specs.Plan.{answer_of, plan_of}
 use Rattle.host.specs.Step.{Books, books_after, comes_to}
 use Rattle.laws.proofs.Sounds.{keeps}
 use Rattle.laws.proofs.Halted.{quiet, stays-good}
@@ -18,8 +19,8 @@ in_between (b ∷ bs) past ms = append_assoc past ((b ∷ bs) ∷ []) ms
 
 -- something good of the books and the messages so far
 module _ (Good : Books → List (List ℕ) → Type 0)
-    (each : (b : Books) (s : List ℕ) (past : List (List ℕ)) → sound b.table ≡ true → is_done (comes_to b s).answer ≡ true → Good b past
-    → Good (books_with b s (comes_to b s).plan) (past ++ telling (message (stamp_of s) (comes_to b s).plan) []))
+    (each : (b : Books) (s : List ℕ) (past : List (List ℕ)) → sound b.table ≡ true → is_done (answer_of (comes_to b s)) ≡ true → Good b past
+    → Good (books_with b s (plan_of (comes_to b s))) (past ++ telling (message (stamp_of s) (plan_of (comes_to b s))) []))
   where
     abbrev Plays : List (List ℕ) → Type 0
     Plays ss = (b : Books) (past : List (List ℕ)) → sound b.table ≡ true → Good b past → Good (unlimited b ss).books (past ++ (unlimited b ss).messages)
@@ -27,13 +28,13 @@ module _ (Good : Books → List (List ℕ) → Type 0)
     pub plays : (ss : List (List ℕ)) → Plays ss
     unfolding unlimited books_after
     plays [] b past ok good = subst (Good b) (sym (append-nil past)) good
-    plays (s ∷ ss) b past ok good = by (is_done (comes_to b s).answer) refl (plays ss)
+    plays (s ∷ ss) b past ok good = by (is_done (answer_of (comes_to b s))) refl (plays ss)
       where
-        by : (done : Bool) → is_done (comes_to b s).answer ≡ done → Plays ss
+        by : (done : Bool) → is_done (answer_of (comes_to b s)) ≡ done → Plays ss
             → Good (play_on b s (comes_to b s) done (λ b'. unlimited b' ss)).books (past ++ (play_on b s (comes_to b s) done (λ b'. unlimited b' ss)).messages)
         by true done rest =
-            let m = message (stamp_of s) (comes_to b s).plan in
-            let b' = books_with b s (comes_to b s).plan in
+            let m = message (stamp_of s) (plan_of (comes_to b s)) in
+            let b' = books_with b s (plan_of (comes_to b s)) in
             subst (Good (unlimited b' ss).books) (in_between m past (unlimited b' ss).messages)
             (rest b' (past ++ telling m []) (keeps b s ok done) (each b s past ok done good))
         by false e rest = rest b past ok good
@@ -53,10 +54,10 @@ play-right ss b ok right =
 pub play-quiet : (ss : List (List ℕ)) → NoHalts ss → (b : Books) → sound b.table ≡ true → (unlimited b ss).books.stocks ≡ b.stocks
 unfolding unlimited books_after
 play-quiet [] none b ok = refl
-play-quiet (s ∷ ss) none b ok = by (is_done (comes_to b s).answer) refl (play-quiet ss none.1)
+play-quiet (s ∷ ss) none b ok = by (is_done (answer_of (comes_to b s))) refl (play-quiet ss none.1)
   where
-    by : (done : Bool) → is_done (comes_to b s).answer ≡ done
+    by : (done : Bool) → is_done (answer_of (comes_to b s)) ≡ done
         → ((b' : Books) → sound b'.table ≡ true → (unlimited b' ss).books.stocks ≡ b'.stocks)
         → (play_on b s (comes_to b s) done (λ b'. unlimited b' ss)).books.stocks ≡ b.stocks
-    by true done rest = rest (books_with b s (comes_to b s).plan) (keeps b s ok done) ∙ quiet b s ok done none.0
+    by true done rest = rest (books_with b s (plan_of (comes_to b s))) (keeps b s ok done) ∙ quiet b s ok done none.0
     by false e rest = rest b ok

@@ -3,6 +3,7 @@
 use Rattle.octets.proofs.Proving.{Bool, List, [], ◌-◌, ◌<◌, ◌∙◌, ◌∷◌, ◌≡◌, ◌≤◌, ap, ap₂, arith, eqb, eqb-true, false, false≢true, le-ltb, le_refl, length, lt-ltb, ltb-true, refl, sub_self, subst, sym, true, ℕ}
 use Rattle.octets.specs.Choice.{pick}
 use Rattle.answers.specs.Answer.{answer_number, is_done}
+use Rattle.answers.proofs.Laws.{done-is-0}
 use Rattle.tape.specs.Entries.{stamp_of}
 use Rattle.notices.specs.Notices.{message}
 use Rattle.outbox.specs.Outbox.{free_bytes, marks_without}
@@ -11,6 +12,7 @@ use Rattle.outbox.proofs.Board.{held-is-enough, release-keeps-good}
 use Rattle.outbox.proofs.Guards.{release-marks-done}
 use Rattle.answers.specs.Answer.{Blocked}
 use Rattle.outbox.specs.declared.marks.Marks.{Marks}
+use Rattle.rules.specs.Plan.{answer_of, plan_of}
 use Rattle.host.specs.Step.{World, Outcome, named_place, no_room, step, books_after, world_after}
 use Rattle.table.proofs.Soundness.{of-sound}
 use Rattle.day.specs.Day.{offer_next, release, run, emptied, patient}
@@ -26,21 +28,21 @@ use Rattle.laws.proofs.Comes.{unblocked}
 -- ---- an empty outbox
 
 module _ (w : World) (s : List ℕ) (ok : Ready w) (none : w.marks.held ≡ 0) where
-  room : is_done (comes w s).answer ≡ true → full w s ≡ false
+  room : is_done (answer_of (comes w s)) ≡ true → full w s ≡ false
   unfolding no_room free_bytes
   room done =
       let r = right (length w.ring) w.marks ok.ring in
-      let h : length (message (stamp_of s) (comes w s).plan) ≤ length w.ring - w.marks.held =
+      let h : length (message (stamp_of s) (plan_of (comes w s))) ≤ length w.ring - w.marks.held =
       omega (arith, short w.books s ok.table done, r.short, none) in
       le-ltb _ _ h
 
-  by : (done crowd : Bool) → is_done (comes w s).answer ≡ done → full w s ≡ crowd → is_blocked (step_by w s (comes w s) true true true done crowd).answer ≡ false
+  by : (done crowd : Bool) → is_done (answer_of (comes w s)) ≡ done → full w s ≡ crowd → is_blocked (step_by w s (comes w s) true true true done crowd).answer ≡ false
   by false crowd e f = unblocked w.books s (of-sound w.books.table ok.table)
   by true true e f = absurd (false≢true (sym (room e) ∙ f))
   by true false e f = refl
 
   pub never-blocked : is_blocked (step w s).answer ≡ false
-  never-blocked = ap (λ (o : Outcome). is_blocked o.answer) (as-judged w s ok) ∙ by (is_done (comes w s).answer) (full w s) refl refl
+  never-blocked = ap (λ (o : Outcome). is_blocked o.answer) (as-judged w s ok) ∙ by (is_done (answer_of (comes w s))) (full w s) refl refl
 
 -- ---- what a step leaves behind, ready for the next
 
@@ -48,24 +50,23 @@ module _ (w : World) (s : List ℕ) (ok : Ready w) (none : w.marks.held ≡ 0) w
 pub stays-ready : (w : World) (s : List ℕ) → Ready w → Ready (step w s).world
 unfolding world_after books_after
 stays-ready w s ok =
-    subst (λ (o : Outcome). Ready o.world) (sym (as-judged w s ok)) (by_both (is_done (comes w s).answer) (full w s) refl refl)
+    subst (λ (o : Outcome). Ready o.world) (sym (as-judged w s ok)) (by_both (is_done (answer_of (comes w s))) (full w s) refl refl)
   where
-    by_both : (done crowd : Bool) → is_done (comes w s).answer ≡ done → full w s ≡ crowd → Ready (step_by w s (comes w s) true true true done crowd).world
+    by_both : (done crowd : Bool) → is_done (answer_of (comes w s)) ≡ done → full w s ≡ crowd → Ready (step_by w s (comes w s) true true true done crowd).world
     by_both false crowd e f = ok
     by_both true true e f = ok
     by_both true false e f =
         record {
           table = keeps w.books s ok.table e;
-          ring = ring-after w (named_place w.books.table s) (stamp_of s) (comes w s).plan ok.ring f;
+          ring = ring-after w (named_place w.books.table s) (stamp_of s) (plan_of (comes w s)) ok.ring f;
           stocks = stays-good w.books s ok.table e ok.stocks;
         }
 
 -- a blocked entry leaves everything as it was
 pub blocked-stays : (w : World) (s : List ℕ) → is_blocked (step w s).answer ≡ true → (step w s).world ≡ w
-unfolding is_done
 blocked-stays w s b =
     let e = eqb-true (answer_number (step w s).answer) (answer_number Blocked) b in
-    only-done-changes w s (ap (λ (n : ℕ). eqb n 0) e)
+    only-done-changes w s (done-is-0 (step w s).answer ∙ ap (λ (n : ℕ). eqb n 0) e)
 
 -- ---- a driver that empties the outbox after each block
 
@@ -111,10 +112,10 @@ patient-through (s ∷ ss) w ok =
 module _ (w : World) (s : List ℕ) (ok : Ready w) where
   abbrev Crowded : Type 0
   Crowded =
-      (is_done (comes w s).answer ≡ true)
-      × (free_bytes (length w.ring) w.marks < length (message (stamp_of s) (comes w s).plan))
+      (is_done (answer_of (comes w s)) ≡ true)
+      × (free_bytes (length w.ring) w.marks < length (message (stamp_of s) (plan_of (comes w s))))
 
-  crowded : (done crowd : Bool) → is_done (comes w s).answer ≡ done → full w s ≡ crowd
+  crowded : (done crowd : Bool) → is_done (answer_of (comes w s)) ≡ done → full w s ≡ crowd
       → is_blocked (step_by w s (comes w s) true true true done crowd).answer ≡ true → Crowded
   unfolding no_room
   crowded false crowd e f b = absurd (false≢true (sym (unblocked w.books s (of-sound w.books.table ok.table)) ∙ b))
@@ -123,7 +124,7 @@ module _ (w : World) (s : List ℕ) (ok : Ready w) where
 
   pub blocked-only : is_blocked (step w s).answer ≡ true → Crowded
   blocked-only b =
-      crowded (is_done (comes w s).answer) (full w s) refl refl
+      crowded (is_done (answer_of (comes w s))) (full w s) refl refl
       (ap (λ (o : Outcome). is_blocked o.answer) (sym (as-judged w s ok)) ∙ b)
 
   pub crowded-blocked : Crowded → is_blocked (step w s).answer ≡ true

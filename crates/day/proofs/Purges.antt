@@ -11,9 +11,9 @@ use Rattle.table.specs.Table.{header, order_at}
 use Rattle.table.proofs.Soundness.{of-sound}
 use Rattle.tape.specs.Entries.{stamp_of, purge_of}
 use Rattle.tape.specs.declared.entry.Purge.{Purge}
-use Rattle.rules.specs.Plan.{refused, changing}
+use Rattle.rules.specs.Plan.{answer_of, plan_of, refused, changing}
 use Rattle.rules.specs.Replace.{canceled_whole}
-use Rattle.rules.specs.declared.plan.Decision.{Decision}
+use Rattle.rules.specs.Types.{Decision}
 use Rattle.risk.specs.Purge.{wanted_by}
 use Rattle.host.specs.Step.{Books, World, header_after, books_after, decide, comes_to}
 use Rattle.laws.specs.Ready.{Ready}
@@ -33,14 +33,14 @@ module _ (s : List ℕ) where
 
   -- what is known of a w that is done
   module _ (b : Books) (good : GoodPurge b s) (some : 0 < orders_for e b.table) where
-    comes-done : is_done (comes_to b s).answer ≡ true
+    comes-done : is_done (answer_of (comes_to b s)) ≡ true
     unfolding canceled_whole changing is_done
-    comes-done = ap (λ (d : Decision). is_done d.answer) (comes-canceled b s good.table good.legal good.is-w good.in-time good.listed some)
+    comes-done = ap (λ (d : Decision). is_done (answer_of d)) (comes-canceled b s good.table good.legal good.is-w good.in-time good.listed some)
 
     abbrev next : Books
-    next = books_with b s (comes_to b s).plan
+    next = books_with b s (plan_of (comes_to b s))
 
-    header_is : header next.table ≡ header_after (header b.table) (stamp_of s) (decide b s).plan
+    header_is : header next.table ≡ header_after (header b.table) (stamp_of s) (plan_of (decide b s))
     unfolding books_after
     header_is = ap header (sym (left_is_lem b s good.table comes-done)) ∙ left-header b s good.table comes-done
 
@@ -71,9 +71,9 @@ module _ (s : List ℕ) where
       rw comes (refl, none)
   offers (suc n) b good some =
       let more : 0 < orders_for e b.table = omega (arith, some) in
-      let comes = ap (λ (d : Decision). d.answer) (comes-canceled b s good.table good.legal good.is-w good.in-time good.listed more) in
+      let comes = ap (λ (d : Decision). answer_of d) (comes-canceled b s good.table good.legal good.is-w good.in-time good.listed more) in
       let rest = offers n (next b good more) (still-good b good more) (omega (arith, some, one_fewer b good more)) in
-      rw comes (ap (λ (rest : List Answer). Done ∷ rest) rest.0, rest.1)
+      rw (comes, comes) (ap (λ (rest : List Answer). Done ∷ rest) rest.0, rest.1)
 
   module _ (b : Books) (good : GoodPurge b s) where
     abbrev ss : List (List ℕ)

@@ -1,6 +1,6 @@
 -- The stream is whole messages: every message of a play is legal for its reader, and cutting the bytes by the lengths that the types fix
 -- gives exactly the messages back. Assumes nothing.
-use Rattle.octets.proofs.Proving.{Bool, List, [], ◌&&◌, ◌++◌, ◌+◌, ◌<◌, ◌||◌, ◌∙◌, ◌∷◌, ◌≡◌, ◌≤◌, ap, ap₂, arith, drop_at, eqb, eqb-true, false, get_or, le-ltb, length, length-append, ltb, ltb-true, refl, subst, suc, sym, take_at, true, zero, ℕ}
+use Rattle.octets.proofs.Proving.{Bool, List, [], ◌&&◌, ◌++◌, ◌<◌, ◌||◌, ◌∙◌, ◌∷◌, ◌≡◌, ◌≤◌, ap, ap₂, arith, drop_at, eqb, eqb-true, false, get_or, le-ltb, length, length-append, ltb, ltb-true, refl, subst, suc, sym, take_at, true, zero, ℕ}
 use Rattle.octets.specs.Choice.{all_below}
 use Rattle.octets.specs.Bytes.{joined}
 use Rattle.octets.proofs.Below.{all-at, both}
@@ -11,6 +11,7 @@ use Rattle.table.specs.Table.{sound}
 use Rattle.tape.specs.Entries.{stamp_of}
 use Rattle.notices.specs.Notices.{message}
 use Rattle.laws.specs.Messages.{OneOfTwelve, AtMostOne, silent, told}
+use Rattle.rules.specs.Plan.{plan_of}
 use Rattle.host.specs.Step.{Books, World, comes_to}
 use Rattle.day.specs.Day.{telling, unlimited, Action, run}
 use Rattle.day.specs.Demand.{bytes, WholeMessages, cut_into, messages_in, AllOfTwelve}
@@ -30,7 +31,7 @@ one-behind (x ∷ past) m one all = (all.0, one-behind past m one all.1)
 pub all-legal : (ss : List (List ℕ)) (b : Books) → sound b.table ≡ true → AllOfTwelve (unlimited b ss).messages
 all-legal ss b ok =
     plays (λ b' past. AllOfTwelve past)
-    (λ b' s past good done all. one-behind past (message (stamp_of s) (comes_to b' s).plan) (sends b' s good done) all) ss b [] ok tt
+    (λ b' s past good done all. one-behind past (message (stamp_of s) (plan_of (comes_to b' s))) (sends b' s good done) all) ss b [] ok tt
 
 -- ---- cutting
 

@@ -7,6 +7,7 @@ use Rattle.orders.specs.declared.order.Order.{Order}
 use Rattle.orders.proofs.Standing.{Live, Dead, Rejected}
 use Rattle.table.proofs.Soundness.{Sound, of-sound}
 use Rattle.table.proofs.Finding.{found, not_found}
+use Rattle.rules.specs.Plan.{answer_of, plan_of}
 use Rattle.host.specs.Step.{Books, World, comes_to, books_after, world_after, step}
 use Rattle.laws.proofs.Given.{from_is, from-none, none-unused}
 use Rattle.laws.proofs.Sounds.{S, keeps}
@@ -50,18 +51,18 @@ module _ (t token : List ℕ) where
 
 -- ---- one done entry
 
-module _ (books : Books) (s : List ℕ) (ok : sound books.table ≡ true) (done : is_done (comes_to books s).answer ≡ true) where
+module _ (books : Books) (s : List ℕ) (ok : sound books.table ≡ true) (done : is_done (answer_of (comes_to books s)) ≡ true) where
   abbrev t : List ℕ
   t = books.table
 
   pub tokens-stay : (i : ℕ) → i < (header t).used → (order_at (left books s ok done) i).token ≡ (order_at t i).token
   tokens-stay = each-record books s ok done (λ x y. y.token ≡ x.token) (λ x. refl) (λ c. c.token)
 
-  pub left_is_lem : left books s ok done ≡ (books_with books s (comes_to books s).plan).table
+  pub left_is_lem : left books s ok done ≡ (books_with books s (plan_of (comes_to books s))).table
   unfolding books_after
   left_is_lem = sym (written books s ok done)
 
-  pub stays-used : (token : List ℕ) → is_used (order_named t token) ≡ true → is_used (order_named (books_with books s (comes_to books s).plan).table token) ≡ true
+  pub stays-used : (token : List ℕ) → is_used (order_named t token) ≡ true → is_used (order_named (books_with books s (plan_of (comes_to books s))).table token) ≡ true
   unfolding books_after
   stays-used token u =
       let l = used-has t token u in

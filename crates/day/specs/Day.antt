@@ -6,10 +6,11 @@ use Rattle.answers.specs.Answer.{is_done}
 use Rattle.outbox.specs.Outbox.{held, release_answer, release_marks}
 use Rattle.notices.specs.Notices.{message}
 use Rattle.tape.specs.Entries.{stamp_of}
+use Rattle.rules.specs.Plan.{answer_of, plan_of}
 use Rattle.host.specs.Step.{Books, World, Outcome, named_place, books_after, step, comes_to}
 use Rattle.laws.specs.Blocked.{is_blocked}
 use Rattle.answers.specs.Answer.{Answer}
-use Rattle.rules.specs.declared.plan.Decision.{Decision}
+use Rattle.rules.specs.Types.{Decision}
 use Rattle.rules.specs.declared.plan.Plan.{Plan}
 use Rattle.outbox.specs.declared.marks.Marks.{Marks}
 
@@ -32,15 +33,15 @@ books_with b s p = books_after b (named_place b.table s) (stamp_of s) p
 -- one entry, and then the rest
 abbrev pub play_on : Books → List ℕ → Decision → Bool → (Books → Played) → Played
 play_on b s d true rest =
-    let r = rest (books_with b s d.plan) in
-    record { answers = d.answer ∷ r.answers; books = r.books; messages = telling (message (stamp_of s) d.plan) r.messages }
+    let r = rest (books_with b s (plan_of d)) in
+    record { answers = answer_of d ∷ r.answers; books = r.books; messages = telling (message (stamp_of s) (plan_of d)) r.messages }
 play_on b s d false rest =
     let r = rest b in
-    record { answers = d.answer ∷ r.answers; books = r.books; messages = r.messages }
+    record { answers = answer_of d ∷ r.answers; books = r.books; messages = r.messages }
 
 unfoldable pub unlimited : Books → List (List ℕ) → Played
 unlimited b [] = record { answers = []; books = b; messages = [] }
-unlimited b (s ∷ ss) = play_on b s (comes_to b s) (is_done (comes_to b s).answer) (λ b'. unlimited b' ss)
+unlimited b (s ∷ ss) = play_on b s (comes_to b s) (is_done (answer_of (comes_to b s))) (λ b'. unlimited b' ss)
 
 -- ---- with an outbox between
 

@@ -1,4 +1,5 @@
 -- What an offer comes to, and so what the code that stands there leaves. Assumes nothing.
+use Rattle.std.specs.Prelude.{Err}
 use Rattle.octets.proofs.Proving.{Bool, List, Option, ◌<◌, ◌∙◌, ◌≡◌, ◌≤◌, ap, arith, false, le-ltb, length, length-append, lt-ltb, none, not, refl, some, sym, take, take_at, true, ℕ}
 use Rattle.octets.specs.Choice.{◌⇒◌⨾◌}
 use Rattle.answers.specs.Answer.{is_done}
@@ -9,7 +10,7 @@ use Rattle.tape.specs.Entries.{well_formed, bad_place_of, entry_answer, stamp_of
 use Rattle.rules.specs.Plan.{refused}
 use Rattle.notices.specs.Notices.{message, sent}
 use Rattle.notices.specs.declared.Sent.{Sent}
-use Rattle.host.specs.Types.{Answer, Done, Malformed, TooEarly, Blocked, Decision, Plan, Marks}
+use Rattle.host.specs.Types.{Answer, Refusal, Done, Malformed, TooEarly, Blocked, Decision, Plan, Marks}
 use Rattle.host.specs.Step.{World, named_place, decide, within_limits, comes_to, committed, set_if, books_after, world_after, unchanged, no_room, carried_out, settle, offer, Leaves}
 
 pub stays : (w : World) (a : Answer) → Leaves (unchanged w a) a w.marks w.books.table w.ring w.books.stocks
@@ -27,9 +28,9 @@ judged-good s legal = by (well_formed s) (bad_place_of s) refl refl legal
     by true (some at) f l e = absurd (let z : ◌≡◌ {A = ℕ} 0 1 = cc in omega arith)
 
 module _ (w : World) (s : List ℕ) where
-  pub refused-leaves : {a : Answer} → a ≡ entry_answer s → is_done a ≡ false → Leaves (offer w s) a w.marks w.books.table w.ring w.books.stocks
-  unfolding offer comes_to settle refused
-  refused-leaves {a} is not_done = rw (← is, not_done) (rw not_done (stays w a))
+  pub refused-leaves : {r : Refusal} → entry_answer s ≡ Err r → Leaves (offer w s) (Err r) w.marks w.books.table w.ring w.books.stocks
+  unfolding offer comes_to settle refused is_done
+  refused-leaves {r} is = rw is (stays w (Err r))
 
   module _ (legal : entry_answer s ≡ Done) where
     pub early-leaves : stamp_of s < (header w.books.table).last → Leaves (offer w s) TooEarly w.marks w.books.table w.ring w.books.stocks

@@ -12,7 +12,7 @@ use Rattle.tape.specs.Kinds.{kind_of}
 use Rattle.tape.specs.declared.kinds.Kind.{Kind}
 use Rattle.tape.specs.declared.kinds.Kind.TheVariants.{Enters, Replaces, Cancels, Modifies, Executes, BookCancels, SelfMatches, Prioritises, TurnsLate, EndsCross, TellsDay, SetsStock, Purges, Disables, Enables, Unknown}
 use Rattle.tape.specs.Entries.{entry_answer, names_order, stamp_of, token_of, enter_of, replace_of, cancel_of, modify_of, execution_of, book_cancel_of, self_match_of, priority_of, system_of, stock_state_of, purges, purge_of, blocking_of}
-use Rattle.rules.specs.Plan.{refused}
+use Rattle.rules.specs.Plan.{answer_of, plan_of, refused}
 use Rattle.rules.specs.Enter.{enter_rule}
 use Rattle.rules.specs.Replace.{replace_rule}
 use Rattle.rules.specs.Cancel.{cancel_rule}
@@ -149,7 +149,7 @@ no_reference_left t p = p.numbered && eqb (header t).reference end_of_references
 unfoldable pub within_limits : List ℕ → Decision → Decision
 within_limits t d =
     first_of
-    is_done d.answer && (no_record_free t d.plan || no_reference_left t d.plan) ⇒ refused Full
+    is_done (answer_of d) && (no_record_free t (plan_of d) || no_reference_left t (plan_of d)) ⇒ refused Full
     ⨾ d
 
 -- 2 and 3 are what judging the entry answers; 4: its stamp lies before the last
@@ -180,8 +180,8 @@ carried_out w place stamp p =
 unfoldable pub settle : World → ℕ → ℕ → Decision → Outcome
 settle w place stamp d =
     first_of
-    is_done d.answer ⇒ carried_out w place stamp d.plan
-    ⨾ unchanged w d.answer
+    is_done (answer_of d) ⇒ carried_out w place stamp (plan_of d)
+    ⨾ unchanged w (answer_of d)
 
 -- what a step does once table, ring and list are judged
 unfoldable pub offer : World → List ℕ → Outcome

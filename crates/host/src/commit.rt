@@ -73,23 +73,13 @@ fn header_after(h: Header, stamp: u64, plan: Plan) -> Header
     requires { (h.used ≤ most_records) × (h.reference ≤ end_of_references) }
     ensures { result ≡ header_after h stamp plan }
 {
-    let added = plan.added;
-    let begins = plan.begins;
-    let firms = h.firms;
-    let threshold = h.threshold;
-    let day = day_after(h.day, begins);
-    let blocked = blocked_after(h, begins);
-    let used = counted(h.used, is_used(added));
-    let reference = numbered(h.reference, plan.numbered);
     Header {
-        day,
-        count: h.count,
-        blocked,
-        used,
+        day: day_after(h.day, plan.begins),
+        blocked: blocked_after(h, plan.begins),
+        used: counted(h.used, is_used(plan.added)),
         last: stamp,
-        reference,
-        threshold,
-        firms,
+        reference: numbered(h.reference, plan.numbered),
+        ..h
     }
 }
 
@@ -98,10 +88,8 @@ pub(crate) fn commit(table: &mut [u8], h: Header, place: usize, stamp: u64, plan
     requires { (h ≡ header table.old) × ((h.used ≤ most_records) × (h.reference ≤ end_of_references)) }
     ensures { table.new ≡ committed table.old place stamp plan }
 {
-    let changed = plan.changed;
-    let added = plan.added;
-    store_if(table, place, changed);
-    store_if(table, h.used as usize, added);
+    store_if(table, place, plan.changed);
+    store_if(table, h.used as usize, plan.added);
     store_header(table, header_after(h, stamp, plan));
 }
 
@@ -111,7 +99,6 @@ pub(crate) fn set_if(stocks: &mut [u8], stock: StockState)
     ensures { stocks.new ≡ set_if stocks.old stock }
 {
     if stock.state != 0 {
-        let symbol = stock.symbol;
-        set_state(stocks, symbol, stock.state);
+        set_state(stocks, stock.symbol, stock.state);
     }
 }

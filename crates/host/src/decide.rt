@@ -9,7 +9,7 @@ ghost use Rattle.rules.specs.Replace.{replace_rule};
 ghost use Rattle.market.specs.Halt.{halt_rule};
 ghost use Rattle.host.specs.Step.{books, named_place, decide_by, decide, within_limits};
 
-use answers::{Refusal, is_done};
+use answers::Refusal;
 use header::{END_OF_REFERENCES, Header};
 use market::cross::{cross_done, late};
 use market::day::system;
@@ -22,7 +22,7 @@ use risk::purging::purge;
 use rules::cancel::cancel;
 use rules::enter::enter;
 use rules::modify::modify;
-use rules::plan::{Decision, refused};
+use rules::plan::Decision;
 use rules::replace::replace;
 use stocks::find::standing;
 use table::find::{find, order_from};
@@ -69,7 +69,7 @@ fn decide(table: &[u8], stocks: &[u8], entry: &[u8], h: Header, named: Order) ->
         Kind::Purges => purge(h, named, purge_of(entry)),
         Kind::Disables => block(h, blocking_of(entry), true),
         Kind::Enables => block(h, blocking_of(entry), false),
-        Kind::Unknown => refused(Err(Refusal::Malformed)),
+        Kind::Unknown => Err(Refusal::Malformed),
     }
 }
 
@@ -78,8 +78,7 @@ fn decide_enter(stocks: &[u8], entry: &[u8], h: Header, named: Order) -> Decisio
     ensures { result ≡ enter_rule h named (standing_in stocks.now (enter_of entry.now).stock) (enter_of entry.now) }
 {
     let e = enter_of(entry);
-    let stock = e.stock;
-    enter(h, named, standing(stocks, stock), e)
+    enter(h, named, standing(stocks, e.stock), e)
 }
 
 // A Replace names two tokens, the existing one and its own, and its stock is that of the order that it replaces.
@@ -88,10 +87,8 @@ fn decide_replace(table: &[u8], stocks: &[u8], entry: &[u8], h: Header, named: O
     ensures { result ≡ replace_rule h named (order_named table.now (replace_of entry.now).replacement) (standing_in stocks.now named.details.kept.stock) (replace_of entry.now) }
 {
     let e = replace_of(entry);
-    let replacement = e.replacement;
-    let found = order_from(table, find(table, replacement));
-    let stock = named.details.kept.stock;
-    replace(h, named, found, standing(stocks, stock), e)
+    let found = order_from(table, find(table, e.replacement));
+    replace(h, named, found, standing(stocks, named.details.kept.stock), e)
 }
 
 fn decide_halt(stocks: &[u8], entry: &[u8]) -> Decision
@@ -99,8 +96,7 @@ fn decide_halt(stocks: &[u8], entry: &[u8]) -> Decision
     ensures { result ≡ halt_rule (standing_in stocks.now (stock_state_of entry.now).symbol) (stock_state_of entry.now) }
 {
     let e = stock_state_of(entry);
-    let symbol = e.symbol;
-    halt(standing(stocks, symbol), e)
+    halt(standing(stocks, e.symbol), e)
 }
 
 // 8: a token must be stored and no record is free, or a reference is needed and none is left. Asked of the plan, so that no rule asks it.
@@ -108,12 +104,11 @@ fn within_limits(table: &[u8], h: Header, d: Decision) -> Decision
     requires { h ≡ header table.now }
     ensures { result ≡ within_limits table.now d }
 {
-    let answer = d.answer;
-    let added = d.plan.added;
-    let no_record = is_used(added) & (records_in(table) <= h.used as usize);
-    let no_reference = d.plan.numbered & (h.reference == END_OF_REFERENCES);
-    if is_done(answer) & (no_record | no_reference) {
-        return refused(Err(Refusal::Full));
+    let plan = d?;
+    let no_record = is_used(plan.added) & (records_in(table) <= h.used as usize);
+    let no_reference = plan.numbered & (h.reference == END_OF_REFERENCES);
+    if no_record | no_reference {
+        return Err(Refusal::Full);
     }
-    d
+    Ok(plan)
 }

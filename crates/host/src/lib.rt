@@ -1,5 +1,5 @@
 // The host: one call that takes an entry to the table and its message to the outbox.
-#![tactic(auto)]
+#![tactic(auto, unfolding(crate::proofs::Opened::opened))]
 
 mod commit;
 mod decide;

@@ -11,7 +11,7 @@ ghost use Rattle.host.specs.Step.{step, offer, settle, carried_out, named_place,
 
 use crate::commit::{commit, set_if};
 use crate::decide::comes_to;
-use answers::{Answer, Refusal, is_done};
+use answers::{Answer, Refusal};
 use header::Header;
 use notices::message;
 use outbox::marks::{Marks, ring_good};
@@ -33,6 +33,16 @@ pub struct Stepped {
     pub marks: Marks,
 }
 
+// A refusal leaves the marks as they are.
+fn refused(refusal: Refusal, marks: Marks) -> Stepped
+    ensures { result ≡ record { answer = Err refusal; marks = marks } }
+{
+    Stepped {
+        answer: Err(refusal),
+        marks,
+    }
+}
+
 // The call that a driver makes for each entry. Table, ring and list are lent, and judged first: no caller has to check anything.
 pub fn step(
     table: &mut [u8],
@@ -43,25 +53,16 @@ pub fn step(
 ) -> Stepped
     ensures { Leaves (step (world table.old ring.old marks stocks.old) entry.now) result.answer result.marks table.new ring.new stocks.new }
 {
-    if sound(table) {
-        if ring_good(ring.len(), marks) {
-            if list_good(stocks) {
-                return offer(table, ring, marks, stocks, entry);
-            }
-            return Stepped {
-                answer: Err(Refusal::WrongStocks),
-                marks,
-            };
-        }
-        return Stepped {
-            answer: Err(Refusal::WrongRing),
-            marks,
-        };
+    if !sound(table) {
+        return refused(Refusal::NotSound, marks);
     }
-    Stepped {
-        answer: Err(Refusal::NotSound),
-        marks,
+    if !ring_good(ring.len(), marks) {
+        return refused(Refusal::WrongRing, marks);
     }
+    if !list_good(stocks) {
+        return refused(Refusal::WrongStocks, marks);
+    }
+    offer(table, ring, marks, stocks, entry)
 }
 
 // What a step does once table, ring and list are judged. Whoever plays many entries in a row judges once and calls this.
@@ -75,13 +76,9 @@ pub fn offer(
     requires { (sound table.old ≡ true) × ((ring_good (length ring.old) marks ≡ true) × (list_good stocks.old ≡ true)) }
     ensures { Leaves (offer (world table.old ring.old marks stocks.old) entry.now) result.answer result.marks table.new ring.new stocks.new }
 {
-    let fault = judge(entry);
-    if is_done(fault) {
-        return take(table, ring, marks, stocks, entry);
-    }
-    Stepped {
-        answer: fault,
-        marks,
+    match judge(entry) {
+        Ok(()) => take(table, ring, marks, stocks, entry),
+        Err(refusal) => refused(refusal, marks),
     }
 }
 
@@ -93,10 +90,7 @@ fn take(table: &mut [u8], ring: &mut [u8], marks: Marks, stocks: &mut [u8], entr
     let h = header(table);
     let stamp = stamp_of(entry);
     if stamp < h.last {
-        return Stepped {
-            answer: Err(Refusal::TooEarly),
-            marks,
-        };
+        return refused(Refusal::TooEarly, marks);
     }
     let place = named_place(table, entry);
     let d = comes_to(table, stocks, entry, h, place);
@@ -131,12 +125,10 @@ fn settle(
     requires { (ring_good (length ring.old) marks ≡ true) × ((list_good stocks.old ≡ true) × ((h ≡ header table.old) × ((h.used ≤ most_records) × (h.reference ≤ end_of_references)))) }
     ensures { Leaves (settle (world table.old ring.old marks stocks.old) place stamp d) result.answer result.marks table.new ring.new stocks.new }
 {
-    let answer = d.answer;
-    if is_done(answer) {
-        let plan = d.plan;
-        return carry_out(table, ring, marks, stocks, h, place, stamp, plan);
+    match d {
+        Ok(plan) => carry_out(table, ring, marks, stocks, h, place, stamp, plan),
+        Err(refusal) => refused(refusal, marks),
     }
-    Stepped { answer, marks }
 }
 
 // The one place where room is asked for. What follows the question is all writing.
@@ -154,18 +146,12 @@ fn carry_out(
     ensures { Leaves (carried_out (world table.old ring.old marks stocks.old) place stamp plan) result.answer result.marks table.new ring.new stocks.new }
 {
     let sent = message(stamp, plan);
-    let bytes = sent.bytes;
-    let len = sent.len;
-    if ring.len() - marks.held < len {
-        return Stepped {
-            answer: Err(Refusal::Blocked),
-            marks,
-        };
+    if ring.len() - marks.held < sent.len {
+        return refused(Refusal::Blocked, marks);
     }
-    let stock = plan.stock;
     commit(table, h, place, stamp, plan);
-    set_if(stocks, stock);
-    let after = append_front(ring, marks, &bytes, len);
+    set_if(stocks, plan.stock);
+    let after = append_front(ring, marks, &sent.bytes, sent.len);
     Stepped {
         answer: Ok(()),
         marks: after,
@@ -177,5 +163,5 @@ fn append_front(ring: &mut [u8], marks: Marks, bytes: &[u8], len: usize) -> Mark
     requires { (ring_good (length ring.old) marks ≡ true) × ((len ≤ free_bytes (length ring.old) marks) × (len ≤ length bytes.now)) }
     ensures { (result ≡ marks_with marks len) × (ring.new ≡ ring_with ring.old marks (take len bytes.now)) }
 {
-    append(ring, marks, &bytes[0..len])
+    append(ring, marks, &bytes[..len])
 }

@@ -10,7 +10,7 @@ use Rattle.table.specs.Table.{header, order_at, order_from, sound}
 use Rattle.table.proofs.Soundness.{of-sound}
 use Rattle.tape.specs.Kinds.{kind_of}
 use Rattle.tape.specs.Entries.{entry_answer, cancel_of}
-use Rattle.rules.specs.Plan.{ignored, refused, changing}
+use Rattle.rules.specs.Plan.{answer_of, plan_of, ignored, refused, changing}
 use Rattle.rules.specs.Cancel.{new_open, cancel_ignored, canceled_order, late_cancel, cancel_rule}
 use Rattle.rules.proofs.Heard.{cancel-live, cancel-smaller}
 use Rattle.host.specs.Step.{World, decide_by, decide, within_limits, comes_to, settle, offer, books_after, world_after, step}
@@ -34,7 +34,7 @@ record Obeys (o : Order) (size : Total) (o' : Order) : Type 0 where
   heard : cancel_ignored o size ≡ false
   leaves : Left o size o'
 
-obeys : (o : Order) (e : CancelOrder) → is_done (cancel_rule o e).answer ≡ true → Obeys o e.size (cancel_rule o e).plan.changed
+obeys : (o : Order) (e : CancelOrder) → is_done (answer_of (cancel_rule o e)) ≡ true → Obeys o e.size (plan_of (cancel_rule o e)).changed
 unfolding cancel_rule late_cancel refused changing marked is_done
 obeys o e =
     guard From (cancel_ignored o e.size) (λ _ d. absurd (false≢true d)) λ heard.
@@ -45,7 +45,7 @@ obeys o e =
     record { heard = heard; leaves = cuts prompt refl }
   where
     From : Decision → Type 0
-    From d = is_done d.answer ≡ true → Obeys o e.size d.plan.changed
+    From d = is_done (answer_of d) ≡ true → Obeys o e.size (plan_of d).changed
 
 -- a size at or above executed + open is ignored
 above-ignored : (o : Order) (e : CancelOrder) → (executions_plus_open o.shares).0 ≤ e.size.0 → cancel_rule o e ≡ ignored
@@ -119,7 +119,7 @@ module _ (w : World) (s : List ℕ) (cancels : kind_of s ≡ Cancels) where
     abbrev ok : sound t ≡ true
     ok = does.ready.table
 
-    abbrev done : is_done (comes_to w.books s).answer ≡ true
+    abbrev done : is_done (answer_of (comes_to w.books s)) ≡ true
     done = does.comes-done
 
     abbrev o' : Order
@@ -128,8 +128,8 @@ module _ (w : World) (s : List ℕ) (cancels : kind_of s ≡ Cancels) where
     obeyed : Obeys o size o'
     obeyed =
         let rule = decided ok (P w.books s ok done).legal in
-        subst (λ (d : Decision). Obeys o size d.plan.changed) (sym rule)
-        (obeys o (cancel_of s) (ap (λ (d : Decision). is_done d.answer) (sym ((P w.books s ok done).is ∙ rule)) ∙ done))
+        subst (λ (d : Decision). Obeys o size (plan_of d).changed) (sym rule)
+        (obeys o (cancel_of s) (ap (λ (d : Decision). is_done (answer_of d)) (sym ((P w.books s ok done).is ∙ rule)) ∙ done))
 
     there : at < (header t).used
     there = omega (arith, live-there t at (alive o size obeyed), (S w.books s ok done).used)

@@ -22,9 +22,10 @@ use Rattle.tape.specs.Entries.{well_formed, bad_place_of, entry_answer, names_or
 use Rattle.tape.proofs.Formed.{formed, long_as, judged}
 use Rattle.inbound.specs.Inbound.{enter_order_of, replace_order_of}
 use Rattle.stocks.specs.Stocks.{standing_in}
-use Rattle.rules.specs.Plan.{no_stock, refused}
+use Rattle.rules.specs.Plan.{answer_of, plan_of, no_stock, refused}
 use Rattle.rules.specs.Enter.{enter_rule}
 use Rattle.rules.specs.Replace.{replace_rule}
+use Rattle.rules.proofs.Refused.{refused-answer}
 use Rattle.host.specs.Step.{Books, named_place, decide_by, decide, no_record_free, no_reference_left, within_limits, comes_to}
 use Rattle.host.proofs.Offers.{judged-good}
 use Rattle.laws.specs.Blocked.{is_blocked}
@@ -37,18 +38,18 @@ use Rattle.laws.proofs.Given.{sane-from, live-there, from_is, holds}
 
 pub record Passed (books : Books) (s : List ℕ) : Type 0 where
   pub legal : entry_answer s ≡ Done
-  pub record-left : no_record_free books.table (decide books s).plan ≡ false
-  pub reference-left : no_reference_left books.table (decide books s).plan ≡ false
+  pub record-left : no_record_free books.table (plan_of (decide books s)) ≡ false
+  pub reference-left : no_reference_left books.table (plan_of (decide books s)) ≡ false
   pub is : comes_to books s ≡ decide books s
 
 -- what an entry comes to, by what was asked on the way
 abbrev comes_by : Answer → Decision → Bool → Bool → Bool → Decision
 comes_by a d legal early full = not legal ⇒ refused a ⨾ early ⇒ refused TooEarly ⨾ full ⇒ refused Full ⨾ d
 
-passed-by : (a : Answer) (d : Decision) (legal early full : Bool) → is_done a ≡ legal → is_done (comes_by a d legal early full).answer ≡ true
-    → (legal ≡ true) × ((full ≡ false) × ((is_done d.answer ≡ true) × (comes_by a d legal early full ≡ d)))
+passed-by : (a : Answer) (d : Decision) (legal early full : Bool) → is_done a ≡ legal → is_done (answer_of (comes_by a d legal early full)) ≡ true
+    → (legal ≡ true) × ((full ≡ false) × ((is_done (answer_of d) ≡ true) × (comes_by a d legal early full ≡ d)))
 unfolding is_done refused
-passed-by a d false early full q h = absurd (false≢true (sym q ∙ h))
+passed-by a d false early full q h = absurd (false≢true (sym q ∙ ap is_done (sym (refused-answer a)) ∙ h))
 passed-by a d true true full q h = absurd (false≢true h)
 passed-by a d true false true q h = absurd (false≢true h)
 passed-by a d true false false q h = (refl, (refl, (h, refl)))
@@ -58,13 +59,13 @@ neither : (done a b : Bool) → done ≡ true → (done && (a || b)) ≡ false �
 neither true a b d h = (or_left a b h, or_right a b h)
 neither false a b d h = absurd (false≢true d)
 
-pub passed : (books : Books) (s : List ℕ) → is_done (comes_to books s).answer ≡ true → Passed books s
+pub passed : (books : Books) (s : List ℕ) → is_done (answer_of (comes_to books s)) ≡ true → Passed books s
 unfolding comes_to within_limits
 passed books s h =
     let t = books.table in
     let d = decide books s in
     let p = passed-by (entry_answer s) d (is_done (entry_answer s)) (ltb (stamp_of s) (header t).last) _ refl h in
-    let none = neither (is_done d.answer) (no_record_free t d.plan) (no_reference_left t d.plan) p.1.1.0 p.1.0 in
+    let none = neither (is_done (answer_of d)) (no_record_free t (plan_of d)) (no_reference_left t (plan_of d)) p.1.1.0 p.1.0 in
     record { legal = is-done (entry_answer s) p.0; record-left = none.0; reference-left = none.1; is = p.1.1.1 }
 
 -- ---- a legal entry's stamp and tokens
@@ -265,7 +266,7 @@ module _ (books : Books) (s : List ℕ) (ok : Sound books.table) (legal : entry_
   decided-by k e = ap (λ (x : Kind). decide_by x h named found books.stocks s) e
 
   -- another kind than h sets no stock's state
-  pub decide-quiet : kind_of s ≢ SetsStock → (decide books s).plan.stock ≡ no_stock
+  pub decide-quiet : kind_of s ≢ SetsStock → (plan_of (decide books s)).stock ≡ no_stock
   unfolding decide
   decide-quiet n = (by_kind (kind_of s) n refl).1.1.quiet
 
@@ -273,19 +274,19 @@ module _ (books : Books) (s : List ℕ) (ok : Sound books.table) (legal : entry_
 
 module _ (books : Books) (s : List ℕ) (ok : Sound books.table) where
   -- a decision of the rules has an answer of theirs
-  decided-own : is_done (entry_answer s) ≡ true → of_rules (decide books s).answer ≡ true
+  decided-own : is_done (entry_answer s) ≡ true → of_rules (answer_of (decide books s)) ≡ true
   decided-own legal = (decide-keeps books s ok (is-done (entry_answer s) legal)).1.1.own
 
-  pub unblocked : is_blocked (comes_to books s).answer ≡ false
+  pub unblocked : is_blocked (answer_of (comes_to books s)) ≡ false
   unfolding comes_to within_limits refused entry_answer
   unblocked =
-      guard Other (not (is_done (entry_answer s))) (λ _. judged-unblocked) λ legal.
+      guard Other (not (is_done (entry_answer s))) (λ _. ap is_blocked (refused-answer (entry_answer s)) ∙ judged-unblocked) λ legal.
       guard Other (ltb (stamp_of s) (header books.table).last) (λ _. refl) λ _.
-      guard Other (is_done (decide books s).answer && (no_record_free books.table (decide books s).plan || no_reference_left books.table (decide books s).plan)) (λ _. refl) λ _.
-      not-true _ (both (not (eqb (answer_number (decide books s).answer) 3)) _ (decided-own (not-false _ legal))).1
+      guard Other (is_done (answer_of (decide books s)) && (no_record_free books.table (plan_of (decide books s)) || no_reference_left books.table (plan_of (decide books s)))) (λ _. refl) λ _.
+      not-true _ (both (not (eqb (answer_number (answer_of (decide books s))) 3)) _ (decided-own (not-false _ legal))).1
     where
       Other : Decision → Type 0
-      Other d = is_blocked d.answer ≡ false
+      Other d = is_blocked (answer_of d) ≡ false
 
       by_place : (o : Option ℕ) → is_blocked (bad_at o ⨾ Done) ≡ false
       by_place none = refl
@@ -294,19 +295,19 @@ module _ (books : Books) (s : List ℕ) (ok : Sound books.table) where
       judged-unblocked : is_blocked (entry_answer s) ≡ false
       judged-unblocked = guard (λ (a : Answer). is_blocked a ≡ false) (not (well_formed s)) (λ _. refl) λ _. by_place (bad_place_of s)
 
-  pub comes-bad : (at : ℕ) → (comes_to books s).answer ≡ BadField at → entry_answer s ≡ BadField at
+  pub comes-bad : (at : ℕ) → answer_of (comes_to books s) ≡ BadField at → entry_answer s ≡ BadField at
   unfolding comes_to within_limits refused
   comes-bad at =
-      guard Judged (not (is_done (entry_answer s))) (λ _ e. e) λ legal.
+      guard Judged (not (is_done (entry_answer s))) (λ _ e. sym (refused-answer (entry_answer s)) ∙ e) λ legal.
       guard Judged (ltb (stamp_of s) (header books.table).last) (λ _ e. let z : ◌≡◌ {A = ℕ} 0 1 = cc in absurd (omega arith)) λ _.
-      guard Judged (is_done (decide books s).answer && (no_record_free books.table (decide books s).plan || no_reference_left books.table (decide books s).plan))
+      guard Judged (is_done (answer_of (decide books s)) && (no_record_free books.table (plan_of (decide books s)) || no_reference_left books.table (plan_of (decide books s))))
       (λ _ e. let z : ◌≡◌ {A = ℕ} 0 1 = cc in absurd (omega arith)) λ _ e.
-      let own = (both (not (eqb (answer_number (decide books s).answer) 3)) _ (decided-own (not-false _ legal))).0 in
+      let own = (both (not (eqb (answer_number (answer_of (decide books s))) 3)) _ (decided-own (not-false _ legal))).0 in
       absurd (false≢true (ap (λ (a : Answer). not (eqb (answer_number a) 3)) (sym e) ∙ own))
     where
       Judged : Decision → Type 0
-      Judged d = d.answer ≡ BadField at → entry_answer s ≡ BadField at
+      Judged d = answer_of d ≡ BadField at → entry_answer s ≡ BadField at
 
-pub bad-comes : (books : Books) (s : List ℕ) (at : ℕ) → entry_answer s ≡ BadField at → (comes_to books s).answer ≡ BadField at
+pub bad-comes : (books : Books) (s : List ℕ) (at : ℕ) → entry_answer s ≡ BadField at → answer_of (comes_to books s) ≡ BadField at
 unfolding comes_to refused is_done
 bad-comes books s at e = rw e

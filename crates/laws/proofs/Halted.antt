@@ -11,7 +11,7 @@ use Rattle.table.specs.Table.{sound}
 use Rattle.table.proofs.Soundness.{of-sound}
 use Rattle.tape.specs.Kinds.{kind_of}
 use Rattle.tape.specs.Entries.{stamp_of, stock_state_of}
-use Rattle.rules.specs.Plan.{refused, setting}
+use Rattle.rules.specs.Plan.{answer_of, plan_of, refused, setting}
 use Rattle.market.specs.Halt.{halt_rule}
 use Rattle.notices.specs.Notices.{message, notice_bytes}
 use Rattle.host.specs.Step.{Books, World, decide_by, comes_to, set_if, books_after, world_after, step}
@@ -31,7 +31,7 @@ state-set l e known = by (eqb e.state 0) refl
     by true z = absurd (false≢true (sym (ap (among stock_states) (eqb-true e.state 0 z)) ∙ known))
     by false z = refl
 
-module _ (books : Books) (s : List ℕ) (ok : sound books.table ≡ true) (done : is_done (comes_to books s).answer ≡ true) where
+module _ (books : Books) (s : List ℕ) (ok : sound books.table ≡ true) (done : is_done (answer_of (comes_to books s)) ≡ true) where
   abbrev l : List ℕ
   l = books.stocks
 
@@ -39,22 +39,22 @@ module _ (books : Books) (s : List ℕ) (ok : sound books.table ≡ true) (done 
   e = stock_state_of s
 
   -- another kind sets nothing
-  pub quiet : kind_of s ≢ SetsStock → set_if l (comes_to books s).plan.stock ≡ l
+  pub quiet : kind_of s ≢ SetsStock → set_if l (plan_of (comes_to books s)).stock ≡ l
   unfolding set_if
   quiet other =
       let passed = passed books s done in
-      ap (set_if l) (ap (λ (d : Decision). d.plan.stock) passed.is ∙ decide-quiet books s (of-sound books.table ok) passed.legal other)
+      ap (set_if l) (ap (λ (d : Decision). (plan_of d).stock) passed.is ∙ decide-quiet books s (of-sound books.table ok) passed.legal other)
 
   -- what is done is the setting, of a listed symbol
   record Set : Type 0 where
     listed : is_listed (standing_in l e.symbol) ≡ true
     plans : comes_to books s ≡ setting e
 
-  set_if_lem : (stock : StockStanding) → is_done (halt_rule stock e).answer ≡ true → (is_listed stock ≡ true) × (halt_rule stock e ≡ setting e)
+  set_if_lem : (stock : StockStanding) → is_done (answer_of (halt_rule stock e)) ≡ true → (is_listed stock ≡ true) × (halt_rule stock e ≡ setting e)
   unfolding halt_rule refused is_done
   set_if_lem stock d = by (is_listed stock) refl d
     where
-      by : (b : Bool) → is_listed stock ≡ b → is_done (not b ⇒ refused NotLive ⨾ setting e).answer ≡ true
+      by : (b : Bool) → is_listed stock ≡ b → is_done (answer_of (not b ⇒ refused NotLive ⨾ setting e)) ≡ true
           → (is_listed stock ≡ true) × ((not b ⇒ refused NotLive ⨾ setting e) ≡ setting e)
       by true q d = (q, refl)
       by false q d = absurd (false≢true d)
@@ -64,23 +64,23 @@ module _ (books : Books) (s : List ℕ) (ok : sound books.table ≡ true) (done 
   sets halt =
       let passed = passed books s done in
       let is = passed.is ∙ decided-by books s (of-sound books.table ok) passed.legal SetsStock halt in
-      let r = set_if_lem (standing_in l e.symbol) (ap (λ (d : Decision). is_done d.answer) (sym is) ∙ done) in
+      let r = set_if_lem (standing_in l e.symbol) (ap (λ (d : Decision). is_done (answer_of d)) (sym is) ∙ done) in
       record { listed = r.0; plans = is ∙ r.1 }
 
-  set_to : kind_of s ≡ SetsStock → set_if l (comes_to books s).plan.stock ≡ with_state l e.symbol e.state
+  set_to : kind_of s ≡ SetsStock → set_if l (plan_of (comes_to books s)).stock ≡ with_state l e.symbol e.state
   unfolding setting
   set_to halt =
-      ap (λ (d : Decision). set_if l d.plan.stock) (sets halt).plans
+      ap (λ (d : Decision). set_if l (plan_of d).stock) (sets halt).plans
       ∙ state-set l e (state-legal s (passed books s done).legal halt)
 
-  silent : kind_of s ≡ SetsStock → message (stamp_of s) (comes_to books s).plan ≡ []
+  silent : kind_of s ≡ SetsStock → message (stamp_of s) (plan_of (comes_to books s)) ≡ []
   unfolding message notice_bytes setting
-  silent halt = ap (λ (d : Decision). message (stamp_of s) d.plan) (sets halt).plans
+  silent halt = ap (λ (d : Decision). message (stamp_of s) (plan_of d)) (sets halt).plans
 
-  pub stays-good : list_good l ≡ true → list_good (set_if l (comes_to books s).plan.stock) ≡ true
+  pub stays-good : list_good l ≡ true → list_good (set_if l (plan_of (comes_to books s)).stock) ≡ true
   stays-good good = by (is_halt (kind_of s))
     where
-      by : (kind_of s ≡ SetsStock) ⊎ (kind_of s ≢ SetsStock) → list_good (set_if l (comes_to books s).plan.stock) ≡ true
+      by : (kind_of s ≡ SetsStock) ⊎ (kind_of s ≢ SetsStock) → list_good (set_if l (plan_of (comes_to books s)).stock) ≡ true
       by (inl halt) =
           ap list_good (set_to halt) ∙ (set_keeps l e.symbol e.state good (state-legal s (passed books s done).legal halt)).good
       by (inr other) = ap list_good (quiet other) ∙ good
@@ -95,7 +95,7 @@ module _ (w : World) (s : List ℕ) where
   after = (step w s).world.books.stocks
 
   -- what is done sets what its plan sets
-  set-list : Does w s (step w s) → after ≡ set_if before (comes w s).plan.stock
+  set-list : Does w s (step w s) → after ≡ set_if before (plan_of (comes w s)).stock
   unfolding world_after books_after
   set-list d = ap (λ (x : World). x.books.stocks) d.world
 

@@ -8,6 +8,7 @@ use Rattle.stocks.specs.Stocks.{list_good}
 use Rattle.table.proofs.Soundness.{of-sound}
 use Rattle.tape.specs.Entries.{stamp_of, entry_answer}
 use Rattle.tape.proofs.Judged.{entry-judged, bad-from-1}
+use Rattle.rules.specs.Plan.{answer_of, plan_of}
 use Rattle.host.specs.Step.{World, Outcome, named_place, comes_to, no_room, carried_out, settle, offer, step}
 use Rattle.laws.specs.Ready.{Ready}
 use Rattle.laws.specs.Places.{TellsPlace}
@@ -19,15 +20,15 @@ module _ (w : World) (s : List ℕ) (at : ℕ) where
   Bad o = o.answer ≡ BadField at
 
   -- the ring answers 9 or nothing
-  settled-bad : (place stamp : ℕ) (d : Decision) → Bad (settle w place stamp d) → d.answer ≡ BadField at
+  settled-bad : (place stamp : ℕ) (d : Decision) → Bad (settle w place stamp d) → answer_of d ≡ BadField at
   unfolding settle carried_out
   settled-bad place stamp d =
-      guard From (is_done d.answer)
-      (λ _. guard From (no_room w stamp d.plan) (λ _ e. let z : ◌≡◌ {A = ℕ} 0 1 = cc in absurd (omega arith)) λ _ e. let z : ◌≡◌ {A = ℕ} 0 1 = cc in absurd (omega arith))
+      guard From (is_done (answer_of d))
+      (λ _. guard From (no_room w stamp (plan_of d)) (λ _ e. let z : ◌≡◌ {A = ℕ} 0 1 = cc in absurd (omega arith)) λ _ e. let z : ◌≡◌ {A = ℕ} 0 1 = cc in absurd (omega arith))
       λ _ e. e
     where
       From : Outcome → Type 0
-      From o = Bad o → d.answer ≡ BadField at
+      From o = Bad o → answer_of d ≡ BadField at
 
   pub step-bad : Bad (step w s) → Ready w × (entry_answer s ≡ BadField at)
   unfolding step offer

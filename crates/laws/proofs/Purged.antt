@@ -23,12 +23,13 @@ use Rattle.table.proofs.Finding.{such-found, such-none}
 use Rattle.tape.specs.Kinds.{kind_of}
 use Rattle.tape.specs.Entries.{entry_answer, names_order, stamp_of, purges, purge_of, blocking_of}
 use Rattle.tape.proofs.Formed.{purges-kind, purge-long}
-use Rattle.rules.specs.Plan.{ignored, refused, changing, blocking}
+use Rattle.rules.specs.Plan.{answer_of, plan_of, ignored, refused, changing, blocking}
 use Rattle.rules.specs.Replace.{canceled_whole}
 use Rattle.risk.specs.Listed.{of_listed}
 use Rattle.risk.specs.Purge.{wanted_by, purge_rule}
 use Rattle.risk.specs.Blocking.{blocking_rule}
 use Rattle.notices.specs.Notices.{message, notice_bytes}
+use Rattle.rules.proofs.Refused.{refused-answer}
 use Rattle.host.specs.Step.{Books, World, Outcome, named_place, decide_by, decide, no_record_free, no_reference_left, within_limits, comes_to, no_room, blocked_after, header_after as header_with, settle, carried_out, offer, step, books_after, world_after}
 use Rattle.host.proofs.Offers.{judged-good}
 use Rattle.laws.specs.Cancels.{ReachesRules}
@@ -133,7 +134,7 @@ module _ (books : Books) (s : List ℕ) (ok : sound books.table ≡ true) (legal
 
   -- ---- what is done
 
-  module _ (done : is_done (comes_to books s).answer ≡ true) where
+  module _ (done : is_done (answer_of (comes_to books s)) ≡ true) where
     abbrev end : List ℕ
     end = left books s ok done
 
@@ -143,12 +144,12 @@ module _ (books : Books) (s : List ℕ) (ok : sound books.table ≡ true) (legal
 
     cancels : Cancels
     unfolding purge_rule of_listed refused is_done
-    cancels = by (ap (λ (d : Decision). is_done d.answer) (sym ((P books s ok done).is ∙ decided)) ∙ done)
+    cancels = by (ap (λ (d : Decision). is_done (answer_of d)) (sym ((P books s ok done).is ∙ decided)) ∙ done)
       where
         From : Decision → Type 0
-        From d = is_done d.answer ≡ true → Cancels
+        From d = is_done (answer_of d) ≡ true → Cancels
 
-        by : is_done (purge_rule h o e).answer ≡ true → Cancels
+        by : is_done (answer_of (purge_rule h o e)) ≡ true → Cancels
         by = guard From (not (is_listed h e.firm)) (λ _ d. absurd (false≢true d)) λ listed.
             guard From (not (is_live o)) (λ _ d. absurd (false≢true d)) λ heard _.
             record { alive = not-false _ heard; plans = decided ∙ rw (not-false (is_listed h e.firm) listed, not-false (is_live o) heard) }
@@ -158,11 +159,11 @@ module _ (books : Books) (s : List ℕ) (ok : sound books.table ≡ true) (legal
 
     added_none : (p books s ok done).added ≡ no_order
     unfolding canceled_whole changing
-    added_none = ap (λ (d : Decision). d.plan.added) cancels.plans
+    added_none = ap (λ (d : Decision). (plan_of d).added) cancels.plans
 
     changed-is : (p books s ok done).changed ≡ killed o
     unfolding canceled_whole changing
-    changed-is = ap (λ (d : Decision). d.plan.changed) cancels.plans
+    changed-is = ap (λ (d : Decision). (plan_of d).changed) cancels.plans
 
     killed-dead : (killed o).state ≡ dead
     unfolding with_flags
@@ -204,7 +205,7 @@ module _ (books : Books) (s : List ℕ) (ok : sound books.table ≡ true) (legal
 
     pub same_bits : (header end).blocked ≡ h.blocked
     unfolding header_with canceled_whole changing
-    same_bits = ap (λ (q : Header). q.blocked) (left-header books s ok done) ∙ ap (λ (d : Decision). blocked_after h d.plan.begins) cancels.plans
+    same_bits = ap (λ (q : Header). q.blocked) (left-header books s ok done) ∙ ap (λ (d : Decision). blocked_after h (plan_of d).begins) cancels.plans
 
 -- ---- a d or an n, of any books
 
@@ -220,29 +221,29 @@ module _ (books : Books) (s : List ℕ) (on : Bool) (ok : sound books.table ≡ 
     unfolding comes_to within_limits blocking_rule of_listed refused is_done
     blocks-unlisted legal in-time un = rw (legal, le-ltb _ _ in-time, rule, un)
 
-    module _ (done : is_done (comes_to books s).answer ≡ true) where
+    module _ (done : is_done (answer_of (comes_to books s)) ≡ true) where
       record Moves : Type 0 where
         listed : is_listed h₂ firm ≡ true
         plans : decide books s ≡ blocking (firm_place h₂ firm) on
 
       moves : Moves
       unfolding blocking_rule of_listed refused is_done
-      moves = by (ap (λ (d : Decision). is_done d.answer) (sym ((P books s ok done).is ∙ rule)) ∙ done)
+      moves = by (ap (λ (d : Decision). is_done (answer_of d)) (sym ((P books s ok done).is ∙ rule)) ∙ done)
         where
           From : Decision → Type 0
-          From d = is_done d.answer ≡ true → Moves
+          From d = is_done (answer_of d) ≡ true → Moves
 
-          by : is_done (blocking_rule h₂ (blocking_of s) on).answer ≡ true → Moves
+          by : is_done (answer_of (blocking_rule h₂ (blocking_of s) on)) ≡ true → Moves
           by = guard From (not (is_listed h₂ firm)) (λ _ d. absurd (false≢true d)) λ listed _.
               record { listed = not-false _ listed; plans = rule ∙ rw (not-false (is_listed h₂ firm) listed) }
 
       pub no-order : (i : ℕ) → i < h₂.used → record_bytes (left books s ok done) i ≡ record_bytes books.table i
       unfolding blocking
-      no-order = same-records books s ok done (ap (λ (d : Decision). d.plan.changed) moves.plans)
+      no-order = same-records books s ok done (ap (λ (d : Decision). (plan_of d).changed) moves.plans)
 
       bits_are : (header (left books s ok done)).blocked ≡ blocked_with h₂ (firm_place h₂ firm) on
       unfolding header_with blocking
-      bits_are = ap (λ (q : Header). q.blocked) (left-header books s ok done) ∙ ap (λ (d : Decision). blocked_after h₂ d.plan.begins) moves.plans
+      bits_are = ap (λ (q : Header). q.blocked) (left-header books s ok done) ∙ ap (λ (d : Decision). blocked_after h₂ (plan_of d).begins) moves.plans
 
       pub others-stay : (k : ℕ) → k ≢ firm_place h₂ firm → bit_of (header (left books s ok done)).blocked k ≡ bit_of h₂.blocked k
       others-stay k apart = ap (λ (b : ℕ). bit_of b k) bits_are ∙ blocked-other h₂ (firm_place h₂ firm) on k apart
@@ -252,9 +253,9 @@ module _ (books : Books) (s : List ℕ) (on : Bool) (ok : sound books.table ≡ 
           ap (λ (b : ℕ). bit_of b (firm_place h₂ firm)) bits_are
           ∙ blocked-own h₂ (firm_place h₂ firm) on (place-listed h₂ firm moves.listed) (S books s ok done).head.most-firms
 
-      pub says_nothing : message (stamp_of s) (comes_to books s).plan ≡ []
+      pub says_nothing : message (stamp_of s) (plan_of (comes_to books s)) ≡ []
       unfolding message notice_bytes blocking
-      says_nothing = ap (λ (d : Decision). message (stamp_of s) d.plan) ((P books s ok done).is ∙ moves.plans)
+      says_nothing = ap (λ (d : Decision). message (stamp_of s) (plan_of d)) ((P books s ok done).is ∙ moves.plans)
 
 -- ---- any step
 
@@ -274,15 +275,15 @@ module _ (w : World) (s : List ℕ) where
 
   -- what the rules come to without the ring is answered
   answers-as : (ready : ReachesRules w s) (a : Answer) → comes_to w.books s ≡ refused a → is_done a ≡ false → (step w s).answer ≡ a
-  unfolding step offer settle refused
-  answers-as h a comes other = rw (h.ready.table, h.ready.ring, h.ready.stocks, comes, other)
+  unfolding step offer settle
+  answers-as h a comes other = rw (h.ready.table, h.ready.ring, h.ready.stocks, comes, refused-answer a, other)
 
   -- and what has a plan is done, or has no room
-  done-or-blocked : (ready : ReachesRules w s) → (comes_to w.books s).answer ≡ Done → ((step w s).answer ≡ Done) ⊎ ((step w s).answer ≡ Blocked)
+  done-or-blocked : (ready : ReachesRules w s) → answer_of (comes_to w.books s) ≡ Done → ((step w s).answer ≡ Done) ⊎ ((step w s).answer ≡ Blocked)
   unfolding step offer settle carried_out is_done
   done-or-blocked h comes =
       rw (h.ready.table, h.ready.ring, h.ready.stocks, comes)
-      (guard (λ (x : Outcome). (x.answer ≡ Done) ⊎ (x.answer ≡ Blocked)) (no_room w (stamp_of s) (comes_to w.books s).plan) (λ _. inr refl) λ _. inl refl)
+      (guard (λ (x : Outcome). (x.answer ≡ Done) ⊎ (x.answer ≡ Blocked)) (no_room w (stamp_of s) (plan_of (comes_to w.books s))) (λ _. inr refl) λ _. inl refl)
 
   -- a sound table lists no blank firm
   unlisted : ReachesRules w s → (firm : List ℕ) → is_blank firm ≡ true → is_listed (header t₃) firm ≡ false
@@ -300,7 +301,7 @@ module _ (w : World) (s : List ℕ) where
             let d = done-does w s (ap is_done done) in
             fewer w.books s d.ready.table (legal d) is-w d.comes-done ∙ ap (λ (u : List ℕ). suc (orders_for (purge_of s) u)) (sym (written_is d));
         some_left = λ h listed some.
-            done-or-blocked h (ap (λ (d : Decision). d.answer) (comes-canceled w.books s h.ready.table h.legal is-w h.in-time listed some));
+            done-or-blocked h (ap answer_of (comes-canceled w.books s h.ready.table h.legal is-w h.in-time listed some));
         none_left = λ h listed none. answers-as h Ignored (comes-ignored w.books s h.ready.table h.legal is-w h.in-time listed none) refl;
         blank-firm = λ h blank.
             answers-as h UnlistedFirm (comes-unlisted w.books s h.ready.table h.legal is-w h.in-time (unlisted h (purge_of s).firm blank)) refl;

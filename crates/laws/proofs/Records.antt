@@ -14,6 +14,7 @@ use Rattle.table.proofs.Soundness.{head-fits}
 use Rattle.table.proofs.Stored as Stored
 use Rattle.table.proofs.Stored.{order-read-back, others-stay, header-read-back, records-stay}
 use Rattle.tape.specs.Entries.{stamp_of}
+use Rattle.rules.specs.Plan.{answer_of, plan_of}
 use Rattle.host.specs.Step.{Books, one_if, store_if, header_after, committed, comes_to}
 use Rattle.laws.proofs.Types.{Decision, Plan, Order, Header}
 use Rattle.laws.proofs.Shapes.{Changed, Change, unchanged, changed, change-of, addition-of}
@@ -84,7 +85,7 @@ module _ (t : List ℕ) (i : ℕ) (o : Order) (there : HasRecord t i) (fit : Fit
 
 -- ---- a plan written down
 
-module _ (books : Books) (s : List ℕ) (ok : sound books.table ≡ true) (done : is_done (comes_to books s).answer ≡ true) where
+module _ (books : Books) (s : List ℕ) (ok : sound books.table ≡ true) (done : is_done (answer_of (comes_to books s)) ≡ true) where
   abbrev t : List ℕ
   t = books.table
 
@@ -110,8 +111,8 @@ module _ (books : Books) (s : List ℕ) (ok : sound books.table ≡ true) (done 
   abbrev pub left : List ℕ
   left = committed t at (stamp_of s) plan
 
-  pub written : committed t at (stamp_of s) (comes_to books s).plan ≡ left
-  written = ap (λ (d : Decision). committed t at (stamp_of s) d.plan) (P books s ok done).is
+  pub written : committed t at (stamp_of s) (plan_of (comes_to books s)) ≡ left
+  written = ap (λ (d : Decision). committed t at (stamp_of s) (plan_of d)) (P books s ok done).is
 
   long : header_size ≤ length end
   long = omega (arith, (kept₂ books s ok done).long, head-fits t (S books s ok done).size)

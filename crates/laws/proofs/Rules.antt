@@ -1,5 +1,6 @@
 -- Every decision of the rules keeps what it should, guard by guard: first what clients send, then what the market, the book and the clock
 -- tell, and what a risk officer asks for. Assumes nothing.
+use Rattle.std.specs.Prelude.{Result}
 use Rattle.octets.proofs.Proving.{Bool, List, ◌&&◌, ◌||◌, ◌∙◌, ◌≡◌, ◌≤◌, ap, arith, eqb, false, guard, inl, length, not, not-false, or_left, or_right, refl, true, ℕ}
 use Rattle.octets.specs.Bytes.{zeros}
 use Rattle.octets.specs.Choice.{pick, among}
@@ -8,6 +9,7 @@ use Rattle.answers.specs.Answer.{is_done}
 use Rattle.wire.specs.Letters.{closed, firm_not_listed, all_rejected, invalid_stock, stock_halted, not_in_this_cross, invalid_display, invalid_price, above_threshold, invalid_minimum, user_requested, crosses, no_cross, start_of_day, end_of_day}
 use Rattle.wire.specs.Shares.{total, ◌equals◌, ◌grown_by◌}
 use Rattle.wire.specs.Limits.{token_size}
+use Rattle.wire.specs.declared.price.Price.{Price}
 use Rattle.stocks.specs.Standing.{is_listed as is_listed_stock, is_halted}
 use Rattle.header.specs.Limits.{day_before, day_open, day_closed, highest_threshold}
 use Rattle.header.specs.Header.{is_open_day}
@@ -34,7 +36,7 @@ use Rattle.market.specs.Day.{system_rule}
 use Rattle.market.specs.Halt.{halt_rule}
 use Rattle.market.proofs.Room.{passed, room}
 use Rattle.laws.specs.Cancels.{executions_plus_open}
-use Rattle.laws.proofs.Types.{Answer, Ignored, NotLive, UnlistedFirm, WrongMoment, Order, Header, Decision, Fault, EnterOrder, ReplaceOrder, CancelOrder, ModifyOrder, Execution, BookCancel, SelfMatch, Priority, System, StockState, Purge, Blocking, StockStanding, Canceled, Modified, Replaced, Executed, AiqCancelled}
+use Rattle.laws.proofs.Types.{Answer, Ignored, NotLive, UnlistedFirm, WrongMoment, Order, Header, Decision, EnterOrder, ReplaceOrder, CancelOrder, ModifyOrder, Execution, BookCancel, SelfMatch, Priority, System, StockState, Purge, Blocking, StockStanding, Canceled, Modified, Replaced, Executed, AiqCancelled}
 use Rattle.laws.proofs.Tests.{modify-live, modify-above, modify-within, fair-shares, good-shares, new-open}
 use Rattle.laws.proofs.Shapes.{Shaped, Born, of_rules, Orderly, Keeps, setting-orderly, refused-keeps, beginning-keeps, blocking-keeps, changing-keeps, renumbering-keeps, accepting-keeps, rejecting-keeps, replacing-keeps, uncounted, recounted, ended, ended-dead}
 
@@ -81,7 +83,7 @@ module _ (h : Header) (e : EnterOrder) (found : Order) (stock : StockStanding) (
         previous = refl;
       }
 
-  abbrev WithFault : Fault → Type 0
+  abbrev WithFault : Result Price ℕ → Type 0
   WithFault f = Keeps found found e.token (enter_outcome h firm e f)
 
   pub enter-keeps : Keeps found found e.token (enter_rule h found stock e)

@@ -19,6 +19,7 @@ use Rattle.outbox.specs.Limits.{shortest_ring}
 use Rattle.table.specs.Table.{sound}
 use Rattle.tape.specs.Entries.{stamp_of}
 use Rattle.notices.specs.Notices.{stated_order, accepted_notice, replaced_notice, canceled_notice, self_match_notice, executed_notice, rejected_notice, priority_notice, modified_notice, notice_bytes, message}
+use Rattle.rules.specs.Plan.{answer_of, plan_of}
 use Rattle.host.specs.Step.{Books, comes_to}
 use Rattle.laws.specs.Messages.{AtMostOne, silent, told}
 use Rattle.laws.proofs.Types.{Order, Plan, Decision, Notice, Accepted, AiqCancelled, CancelPending, CancelReject, Canceled, Executed, Modified, PriorityUpdate, Rejected, Replaced, Silent, SystemEvent}
@@ -114,23 +115,23 @@ tells stands used p (accepts f c b e) = rw e (rw b.token used)
 tells stands used p (rejects f c a reason e) = rw (e, a) used
 tells stands used p (replaces f c end b e) = rw e (rw b.token used, rw b.previous (stands c.alive))
 
-module _ (books : Books) (s : List ℕ) (ok : sound books.table ≡ true) (done : is_done (comes_to books s).answer ≡ true) where
+module _ (books : Books) (s : List ℕ) (ok : sound books.table ≡ true) (done : is_done (answer_of (comes_to books s)) ≡ true) where
   abbrev t : List ℕ
   t = books.table
 
-  pub sends : AtMostOne (message (stamp_of s) (comes_to books s).plan)
+  pub sends : AtMostOne (message (stamp_of s) (plan_of (comes_to books s)))
   unfolding message
   sends =
       let k = K books s ok done in
       let plan = p books s ok done in
       let S = S books s ok done in
-      subst (λ (d : Decision). AtMostOne (message (stamp_of s) d.plan)) (sym (P books s ok done).is)
+      subst (λ (d : Decision). AtMostOne (message (stamp_of s) (plan_of d))) (sym (P books s ok done).is)
       (notice-one (stamp_of s) plan.changed plan.added plan.notice (stamp-legal s (P books s ok done).legal)
       (added-shaped plan.added k.1.0.long (addition-of k.1.1.shape))
       (tells (λ alive. may-name _ (sane-from t S (place books s ok done)).shaped.token (token-legal t S (place books s ok done) alive))
       (may-name k.0 k.1.0.long k.1.0.legal) plan k.1.1.shape))
 
-  pub short : length (message (stamp_of s) (comes_to books s).plan) ≤ shortest_ring
+  pub short : length (message (stamp_of s) (plan_of (comes_to books s))) ≤ shortest_ring
   short = at_most sends
     where
       at_most : {m : List ℕ} → AtMostOne m → length m ≤ shortest_ring

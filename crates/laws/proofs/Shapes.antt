@@ -1,5 +1,6 @@
 -- The shapes that a plan may have, and what every decision of the rules keeps; first each kind of plan, then each change of a live order.
 -- Assumes nothing.
+use Rattle.std.specs.Prelude.{Ok, Err}
 use Rattle.octets.proofs.Proving.{Bool, List, ◌&&◌, ◌+◌, ◌-◌, ◌≡◌, ◌≤◌, arith, eqb, false, inl, length, not, refl, true, ℕ}
 use Rattle.octets.specs.Bytes.{zeros}
 use Rattle.answers.specs.Answer.{answer_number}
@@ -11,7 +12,7 @@ use Rattle.orders.specs.Counts.{gone, open_shares, cut, with_liable}
 use Rattle.orders.specs.Order.{is_live, is_used, no_order, rejected_order, dead_if_spent, with_flags, with_side, killed}
 use Rattle.orders.specs.declared.counts.Counts.{Counts}
 use Rattle.orders.proofs.Standing.{Live}
-use Rattle.rules.specs.Plan.{no_stock, refused, changing, renumbering, accepting, replacing as replacing_by, rejecting, beginning, blocking, setting}
+use Rattle.rules.specs.Plan.{answer_of, plan_of, no_stock, refused, changing, renumbering, accepting, replacing as replacing_by, rejecting, beginning, blocking, setting}
 use Rattle.laws.specs.Blocked.{is_blocked}
 use Rattle.laws.specs.Cancels.{executions_plus_open}
 use Rattle.laws.proofs.Types.{Answer, Order, Plan, StockState, Decision, Begins, Nothing, Day, Block, Notice, Silent, SystemEvent, Accepted, Replaced, Canceled, AiqCancelled, Executed, Rejected, CancelPending, CancelReject, PriorityUpdate, Modified}
@@ -115,19 +116,20 @@ of_rules a = not (eqb (answer_number a) 3) && not (is_blocked a)
 
 -- what every decision of the rules keeps
 pub record Orderly (named found : Order) (token : List ℕ) (d : Decision) : Type 0 where
-  pub shape : Shape named found token d.plan
-  pub begins : Begun d.plan.begins
-  pub own : of_rules d.answer ≡ true
+  pub shape : Shape named found token (plan_of d)
+  pub begins : Begun (plan_of d).begins
+  pub own : of_rules (answer_of d) ≡ true
 
 -- and every one but h's: no state of a stock is set
 pub record Keeps (named found : Order) (token : List ℕ) (d : Decision) : Type 0 where
   pub orderly : Orderly named found token d
-  pub quiet : d.plan.stock ≡ no_stock
+  pub quiet : (plan_of d).stock ≡ no_stock
 
 module _ {named found : Order} {token : List ℕ} where
   pub refused-keeps : (answer : Answer) → of_rules answer ≡ true → Keeps named found token (refused answer)
   unfolding refused
-  refused-keeps answer own = record { orderly = record { shape = nobody refl refl refl; begins = tt; own = own }; quiet = refl }
+  refused-keeps (Ok done) own = record { orderly = record { shape = nobody refl refl refl; begins = tt; own = own }; quiet = refl }
+  refused-keeps (Err r) own = record { orderly = record { shape = nobody refl refl refl; begins = tt; own = own }; quiet = refl }
 
   pub beginning-keeps : (day event : ℕ) → day ≤ day_closed → Keeps named found token (beginning day event)
   unfolding beginning

@@ -20,6 +20,7 @@ use Rattle.table.proofs.Stored.{same-records, order-length, order-header}
 use Rattle.table.proofs.Agreeing.{Agree, Grows}
 use Rattle.table.proofs.Keeps.{records-after, agrees_after, order-keeps, header-keeps}
 use Rattle.tape.specs.Entries.{stamp_of}
+use Rattle.rules.specs.Plan.{answer_of, plan_of}
 use Rattle.host.specs.Step.{Books, one_if, named_place, store_if, day_after, blocked_after, header_after, committed, no_record_free, no_reference_left, decide, comes_to}
 use Rattle.laws.specs.Records.{Paper, EveryRecord}
 use Rattle.laws.proofs.Types.{Decision, Plan, Order, Header, Begins, Nothing, Day, Block}
@@ -81,7 +82,7 @@ added-fit new n (born x before b) u =
 
 -- ---- a plan written down
 
-module _ (books : Books) (s : List ℕ) (ok : sound books.table ≡ true) (done : is_done (comes_to books s).answer ≡ true) where
+module _ (books : Books) (s : List ℕ) (ok : sound books.table ≡ true) (done : is_done (answer_of (comes_to books s)) ≡ true) where
   abbrev t : List ℕ
   t = books.table
 
@@ -92,7 +93,7 @@ module _ (books : Books) (s : List ℕ) (ok : sound books.table ≡ true) (done 
   P = passed books s done
 
   abbrev pub p : Plan
-  p = (decide books s).plan
+  p = plan_of (decide books s)
 
   abbrev pub place : ℕ
   place = named_place t s
@@ -270,8 +271,8 @@ module _ (books : Books) (s : List ℕ) (ok : sound books.table ≡ true) (done 
       let long = kept₂.long in
       header-keeps after whole two (same_size t two long S.size) (rw (same-records t two long) good) kept₂.records kept₂.agrees
 
-  pub keeps : sound (committed t place (stamp_of s) (comes_to books s).plan) ≡ true
-  keeps = ap (λ (d : Decision). sound (committed t place (stamp_of s) d.plan)) P.is ∙ written-sound
+  pub keeps : sound (committed t place (stamp_of s) (plan_of (comes_to books s))) ≡ true
+  keeps = ap (λ (d : Decision). sound (committed t place (stamp_of s) (plan_of d))) P.is ∙ written-sound
 
 -- ---- and every record of a sound table is as the paper says
 

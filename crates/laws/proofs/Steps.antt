@@ -6,6 +6,7 @@ use Rattle.table.specs.Table.{sound}
 use Rattle.tape.specs.Entries.{stamp_of}
 use Rattle.outbox.specs.Outbox.{ring_good}
 use Rattle.stocks.specs.Stocks.{list_good}
+use Rattle.rules.specs.Plan.{answer_of, plan_of}
 use Rattle.host.specs.Step.{World, Outcome, named_place, comes_to, no_room, carried_out, settle, offer, step, books_after, world_after, unchanged}
 use Rattle.laws.specs.Ready.{Ready}
 use Rattle.laws.specs.Records.{EveryRecord}
@@ -18,17 +19,17 @@ step_by w s d table_good ring_right list_right done full =
     not table_good ⇒ unchanged w NotSound
     ⨾ not ring_right ⇒ unchanged w WrongRing
     ⨾ not list_right ⇒ unchanged w WrongStocks
-    ⨾ done ⇒ (full ⇒ unchanged w Blocked ⨾ record { answer = Done; world = world_after w (named_place w.books.table s) (stamp_of s) d.plan })
-    ⨾ unchanged w d.answer
+    ⨾ done ⇒ (full ⇒ unchanged w Blocked ⨾ record { answer = Done; world = world_after w (named_place w.books.table s) (stamp_of s) (plan_of d) })
+    ⨾ unchanged w (answer_of d)
 
 module _ (w : World) (s : List ℕ) where
   abbrev pub comes : Decision
   comes = comes_to w.books s
 
   abbrev pub full : Bool
-  full = no_room w (stamp_of s) comes.plan
+  full = no_room w (stamp_of s) (plan_of comes)
 
-  pub step_by_lem : step w s ≡ step_by w s comes (sound w.books.table) (ring_good (length w.ring) w.marks) (list_good w.books.stocks) (is_done comes.answer) full
+  pub step_by_lem : step w s ≡ step_by w s comes (sound w.books.table) (ring_good (length w.ring) w.marks) (list_good w.books.stocks) (is_done (answer_of comes)) full
   unfolding step offer settle carried_out
   step_by_lem = refl
 
@@ -37,7 +38,7 @@ module _ (w : World) (s : List ℕ) where
   unfolding is_done
   only-done-changes h =
       ap (λ (o : Outcome). o.world) step_by_lem
-      ∙ by (sound w.books.table) (ring_good (length w.ring) w.marks) (list_good w.books.stocks) (is_done comes.answer) full (ap (λ (o : Outcome). is_done o.answer) (sym step_by_lem) ∙ h)
+      ∙ by (sound w.books.table) (ring_good (length w.ring) w.marks) (list_good w.books.stocks) (is_done (answer_of comes)) full (ap (λ (o : Outcome). is_done o.answer) (sym step_by_lem) ∙ h)
     where
       by : (table_good ring_right list_right done full : Bool) → is_done (step_by w s comes table_good ring_right list_right done full).answer ≡ false
           → (step_by w s comes table_good ring_right list_right done full).world ≡ w
@@ -51,18 +52,18 @@ module _ (w : World) (s : List ℕ) where
   -- and 0 is answered where nothing was wrong, and the plan carried out
   pub record Does (o : Outcome) : Type 0 where
     pub ready : Ready w
-    pub comes-done : is_done comes.answer ≡ true
-    pub world : o.world ≡ world_after w (named_place w.books.table s) (stamp_of s) comes.plan
+    pub comes-done : is_done (answer_of comes) ≡ true
+    pub world : o.world ≡ world_after w (named_place w.books.table s) (stamp_of s) (plan_of comes)
 
   pub done-does : is_done (step w s).answer ≡ true → Does (step w s)
   unfolding is_done
   done-does h =
       subst Does (sym step_by_lem)
-      (by (sound w.books.table) (ring_good (length w.ring) w.marks) (list_good w.books.stocks) (is_done comes.answer) full refl refl refl refl
+      (by (sound w.books.table) (ring_good (length w.ring) w.marks) (list_good w.books.stocks) (is_done (answer_of comes)) full refl refl refl refl
       (ap (λ (o : Outcome). is_done o.answer) (sym step_by_lem) ∙ h))
     where
       by : (table_good ring_right list_right done full : Bool) → sound w.books.table ≡ table_good → ring_good (length w.ring) w.marks ≡ ring_right
-          → list_good w.books.stocks ≡ list_right → is_done comes.answer ≡ done
+          → list_good w.books.stocks ≡ list_right → is_done (answer_of comes) ≡ done
           → is_done (step_by w s comes table_good ring_right list_right done full).answer ≡ true → Does (step_by w s comes table_good ring_right list_right done full)
       by false r l d f t g q e h = absurd (false≢true h)
       by true false l d f t g q e h = absurd (false≢true h)

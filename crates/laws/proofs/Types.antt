@@ -19,9 +19,7 @@ pub use Rattle.tape.specs.declared.entry.Blocking.{Blocking}
 pub use Rattle.stocks.specs.declared.standing.Standing.{Standing as StockStanding}
 pub use Rattle.header.specs.declared.Header.{Header}
 pub use Rattle.orders.specs.declared.order.Order.{Order}
-pub use Rattle.rules.specs.declared.enter.Fault.{Fault}
-pub use Rattle.rules.specs.declared.enter.Fault.TheVariants.{Letter, Absent}
-pub use Rattle.rules.specs.declared.plan.Decision.{Decision}
+pub use Rattle.rules.specs.Types.{Decision}
 pub use Rattle.rules.specs.declared.plan.Begins.{Begins}
 pub use Rattle.rules.specs.declared.plan.Begins.TheVariants.{Nothing, Day, Block}
 pub use Rattle.rules.specs.declared.plan.Plan.{Plan}

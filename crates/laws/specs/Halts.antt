@@ -7,6 +7,7 @@ use Rattle.tape.specs.Kinds.{kind_of}
 use Rattle.tape.specs.declared.kinds.Kind.TheVariants.{SetsStock}
 use Rattle.tape.specs.Entries.{stamp_of, stock_state_of}
 use Rattle.notices.specs.Notices.{message}
+use Rattle.rules.specs.Plan.{plan_of}
 use Rattle.host.specs.Step.{World, comes_to, step}
 
 -- what a done h leaves: its symbol is listed, that one byte of the list is set, and nothing is sent
@@ -15,7 +16,7 @@ pub record Halts (w : World) (s : List ℕ) : Type 0 where
   pub set : (step w s).world.books.stocks ≡ with_state w.books.stocks (stock_state_of s).symbol (stock_state_of s).state
   pub one_byte : (k : ℕ) → k ≢ state_place (place_of w.books.stocks (stock_state_of s).symbol)
       → get_or (step w s).world.books.stocks k 0 ≡ get_or w.books.stocks k 0
-  pub sends-nothing : message (stamp_of s) (comes_to w.books s).plan ≡ []
+  pub sends-nothing : message (stamp_of s) (plan_of (comes_to w.books s)) ≡ []
 
 pub record KeepsStocks (w : World) (s : List ℕ) : Type 0 where
   -- no other entry changes a byte of it, and only a done h does

@@ -11,6 +11,7 @@ use Rattle.tape.specs.Entries.{stamp_of, purge_of, blocking_of}
 use Rattle.tape.specs.declared.entry.Purge.{Purge}
 use Rattle.risk.specs.Purge.{wanted_by}
 use Rattle.notices.specs.Notices.{message}
+use Rattle.rules.specs.Plan.{plan_of}
 use Rattle.host.specs.Step.{World, comes_to, step}
 use Rattle.laws.specs.Cancels.{ReachesRules, before}
 
@@ -47,6 +48,6 @@ pub record BlocksOne (w : World) (s : List ℕ) (on : Bool) : Type 0 where
   -- it touches no order, no other firm's bit, and sends nothing
   pub orders : (i : ℕ) → i < (header_before w).used → RecordStays w s i
   pub other-bits : (k : ℕ) → k ≢ firm_place (header_before w) (blocking_of s).firm → bit_of (header_after w s).blocked k ≡ bit_of (header_before w).blocked k
-  pub sends-nothing : (step w s).answer ≡ Done → message (stamp_of s) (comes_to w.books s).plan ≡ []
+  pub sends-nothing : (step w s).answer ≡ Done → message (stamp_of s) (plan_of (comes_to w.books s)) ≡ []
   pub own-bit : (step w s).answer ≡ Done → bit_of (header_after w s).blocked (firm_place (header_before w) (blocking_of s).firm) ≡ on
   pub blank-firm : ReachesRules w s → is_blank (blocking_of s).firm ≡ true → (step w s).answer ≡ UnlistedFirm

@@ -31,11 +31,10 @@ room o d e =
     omega (arith, eqb-false d.0 0 (or_left _ _ w), ltb-false (open_shares o.shares).0 d.0 (or_right (eqb d.0 0) _ w))
 
 -- so whichever count grows by them has room
-pub takes : (o : Order) (moment : Bool) (d : Removed) {a : Answer} {r s : Bool} → s ≡ shares_right o d → a ≡ market_answer o moment s
-    → r ≡ is_done a → r ≡ true
+pub takes : (o : Order) (moment : Bool) (d : Removed) {a : Answer} {s : Bool} → s ≡ shares_right o d → a ≡ market_answer o moment s → a ≡ Done
     → (o.shares.executed.0 + d.0 ≤ o.shares.liable.0) × (o.shares.matched.0 + d.0 ≤ o.shares.liable.0)
-unfolding gone
-takes o moment d {s = s} right answer promise done =
-    let p = passed o moment s (ap is_done (sym answer) ∙ sym promise ∙ done) in
+unfolding gone is_done
+takes o moment d {s = s} right promise done =
+    let p = passed o moment s (ap is_done (sym promise ∙ done)) in
     let fits = room o d (sym right ∙ p.fair) in
     (omega (arith, fits), omega (arith, fits))

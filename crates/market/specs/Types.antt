@@ -11,6 +11,6 @@ pub use Rattle.tape.specs.declared.entry.StockState.{StockState}
 pub use Rattle.stocks.specs.declared.standing.Standing.{Standing}
 pub use Rattle.header.specs.declared.Header.{Header}
 pub use Rattle.orders.specs.declared.order.Order.{Order}
-pub use Rattle.rules.specs.declared.plan.Decision.{Decision}
+pub use Rattle.rules.specs.Types.{Decision}
 pub use Rattle.rules.specs.declared.plan.Notice.{Notice}
 pub use Rattle.rules.specs.declared.plan.Notice.TheVariants.{AiqCancelled, Canceled, Executed, PriorityUpdate, Silent}

@@ -3,22 +3,18 @@ ghost use Rattle.std.specs.Prelude.{◌≡◌};
 ghost use Rattle.market.specs.Cross.{late_rule, cross_done, cross_done_rule};
 
 use crate::guards::market_answer;
-use answers::is_done;
 use header::{Header, is_open_day};
 use orders::counts::open_shares;
 use orders::flags::Flag;
 use orders::order::{Order, cleared, is, killed, marked};
-use rules::plan::{Decision, Notice, changing, refused};
+use rules::plan::{Decision, Notice, changing};
 
 pub fn late(h: Header, o: Order) -> Decision
     ensures { result ≡ late_rule h o }
 {
-    let moment = is_open_day(h) & !(o.details.kept.cross == b'N') & !is(o, Flag::Late);
-    let answer = market_answer(o, moment, true);
-    if is_done(answer) {
-        return changing(marked(o, Flag::Late), Notice::Silent);
-    }
-    refused(answer)
+    let moment = is_open_day(h) & (o.details.kept.cross != b'N') & !is(o, Flag::Late);
+    market_answer(o, moment, true)?;
+    changing(marked(o, Flag::Late), Notice::Silent)
 }
 
 // Of a late order: a cancel that waited takes all that is open.
@@ -37,9 +33,6 @@ fn cross_done_of(o: Order) -> Decision
 pub fn cross_done(o: Order) -> Decision
     ensures { result ≡ cross_done_rule o }
 {
-    let answer = market_answer(o, is(o, Flag::Late), true);
-    if is_done(answer) {
-        return cross_done_of(o);
-    }
-    refused(answer)
+    market_answer(o, is(o, Flag::Late), true)?;
+    cross_done_of(o)
 }

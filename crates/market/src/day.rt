@@ -4,7 +4,7 @@ ghost use Rattle.market.specs.Day.{system_rule};
 
 use answers::Refusal;
 use header::{BEFORE, CLOSED, Header, OPEN};
-use rules::plan::{Decision, beginning, refused};
+use rules::plan::{Decision, beginning};
 use tape::entry::System;
 
 pub fn system(h: Header, e: System) -> Decision
@@ -16,5 +16,5 @@ pub fn system(h: Header, e: System) -> Decision
     if (e.event == b'E') & (h.day == OPEN) {
         return beginning(CLOSED, e.event);
     }
-    refused(Err(Refusal::WrongMoment))
+    Err(Refusal::WrongMoment)
 }

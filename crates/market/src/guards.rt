@@ -2,20 +2,21 @@
 ghost use Rattle.std.specs.Prelude.{◌≡◌};
 ghost use Rattle.market.specs.Guards.{market_answer};
 
-use answers::{Answer, Refusal, first_of};
+use answers::{Answer, Refusal};
 use orders::order::{Order, is_live};
 
 // Whether the moment and the shares are right is what the kinds differ in.
 pub(crate) fn market_answer(o: Order, moment: bool, shares: bool) -> Answer
     ensures { result ≡ market_answer o moment shares }
 {
-    first_of(
-        !is_live(o),
-        Err(Refusal::NotLive),
-        first_of(
-            !moment,
-            Err(Refusal::WrongMoment),
-            first_of(!shares, Err(Refusal::WrongShares), Ok(())),
-        ),
-    )
+    if !is_live(o) {
+        return Err(Refusal::NotLive);
+    }
+    if !moment {
+        return Err(Refusal::WrongMoment);
+    }
+    if !shares {
+        return Err(Refusal::WrongShares);
+    }
+    Ok(())
 }

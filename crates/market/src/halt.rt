@@ -3,7 +3,7 @@ ghost use Rattle.std.specs.Prelude.{◌≡◌};
 ghost use Rattle.market.specs.Halt.{halt_rule};
 
 use answers::Refusal;
-use rules::plan::{Decision, refused, setting};
+use rules::plan::{Decision, setting};
 use stocks::standing::{Standing, is_listed};
 use tape::entry::StockState;
 
@@ -11,8 +11,8 @@ use tape::entry::StockState;
 pub fn halt(standing: Standing, e: StockState) -> Decision
     ensures { result ≡ halt_rule standing e }
 {
-    if is_listed(standing) {
-        return setting(e);
+    if !is_listed(standing) {
+        return Err(Refusal::NotLive);
     }
-    refused(Err(Refusal::NotLive))
+    setting(e)
 }

@@ -6,4 +6,4 @@ pub use Rattle.header.specs.declared.Header.{Header}
 pub use Rattle.orders.specs.declared.order.Order.{Order}
 pub use Rattle.orders.specs.declared.wanted.Wanted.{Wanted}
 pub use Rattle.orders.specs.declared.wanted.By.TheVariants.{Firm, Stock}
-pub use Rattle.rules.specs.declared.plan.Decision.{Decision}
+pub use Rattle.rules.specs.Types.{Decision}

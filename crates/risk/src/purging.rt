@@ -9,7 +9,7 @@ use header::Header;
 use header::firms::is_listed;
 use orders::order::{Order, is_live};
 use orders::wanted::{By, Wanted};
-use rules::plan::{Decision, refused};
+use rules::plan::Decision;
 use rules::replace::canceled_whole;
 use tape::entry::Purge;
 
@@ -24,6 +24,7 @@ fn names_all(symbol: [u8; 8]) -> bool
 pub fn wanted_by(e: Purge) -> Wanted
     ensures { result ≡ wanted_by e }
 {
+    // the borrow checker takes an array into a literal by a variable alone
     let firm = e.firm;
     let symbol = e.symbol;
     let by = if names_all(symbol) {
@@ -38,12 +39,11 @@ pub fn wanted_by(e: Purge) -> Wanted
 pub fn purge(h: Header, o: Order, e: Purge) -> Decision
     ensures { result ≡ purge_rule h o e }
 {
-    let firm = e.firm;
-    if !is_listed(h, firm) {
-        return refused(Err(Refusal::UnlistedFirm));
+    if !is_listed(h, e.firm) {
+        return Err(Refusal::UnlistedFirm);
     }
     if !is_live(o) {
-        return refused(Err(Refusal::Ignored));
+        return Err(Refusal::Ignored);
     }
     canceled_whole(o)
 }

@@ -1,4 +1,4 @@
-pub mod Prices
-pub mod Allowed
+pub mod Opened
+pub mod Refused
 pub mod Heard
 pub mod Unique

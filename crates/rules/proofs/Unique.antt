@@ -11,11 +11,10 @@ enter-unique κs a = settled
 pub modify-unique : Settled rules.modify.modify.Reads.Post
 modify-unique κs a = settled
 
-pub plan-unique : Settled rules.plan.refused.Reads.Post and Settled rules.plan.changing.Reads.Post
-    and Settled rules.plan.renumbering.Reads.Post and Settled rules.plan.accepting.Reads.Post and Settled rules.plan.replacing.Reads.Post
-    and Settled rules.plan.rejecting.Reads.Post and Settled rules.plan.beginning.Reads.Post
-    and Settled rules.plan.blocking.Reads.Post and Settled rules.plan.setting.Reads.Post
-plan-unique = (λ κs a. settled) also (λ κs a. settled) also (λ κs a. settled) also (λ κs a. settled) also (λ κs a. settled) also (λ κs a. settled) also (λ κs a. settled)
+pub plan-unique : Settled rules.plan.changing.Reads.Post and Settled rules.plan.renumbering.Reads.Post
+    and Settled rules.plan.accepting.Reads.Post and Settled rules.plan.replacing.Reads.Post and Settled rules.plan.rejecting.Reads.Post
+    and Settled rules.plan.beginning.Reads.Post and Settled rules.plan.blocking.Reads.Post and Settled rules.plan.setting.Reads.Post
+plan-unique = (λ κs a. settled) also (λ κs a. settled) also (λ κs a. settled) also (λ κs a. settled) also (λ κs a. settled) also (λ κs a. settled)
     also (λ κs a. settled) also (λ κs a. settled)
 
 pub replace-unique : Settled rules.replace.replace.Reads.Post and Settled rules.replace.canceled_whole.Reads.Post

@@ -1,5 +1,5 @@
 -- O: an order is entered (What each entry does, O).
-use Rattle.std.specs.Prelude.{ℕ, min, Bool, not, ◌&&◌, ◌||◌, List, eqb}
+use Rattle.std.specs.Prelude.{ℕ, min, Bool, not, ◌&&◌, ◌||◌, List, eqb, Result, Ok, Err}
 use Rattle.octets.specs.Choice.{pick, first_of◌, ◌⇒◌⨾◌, among}
 use Rattle.octets.specs.Bytes.{zeros}
 use Rattle.wire.specs.Letters.{live, closed, firm_not_listed, all_rejected, invalid_stock, stock_halted, not_in_this_cross, invalid_display, invalid_price, above_threshold, invalid_minimum, displays, crosses, capacities, imbalance_only, no_cross, other_capacity}
@@ -14,7 +14,7 @@ use Rattle.header.specs.Firms.{meant_firm, is_listed, firm_blocked}
 use Rattle.stocks.specs.Standing.{is_listed as is_listed_stock, is_halted}
 use Rattle.rules.specs.Limits.{longest_time, immediate}
 use Rattle.rules.specs.Plan.{ignored, accepting, rejecting}
-use Rattle.rules.specs.Types.{Decision, Fault, Letter, Absent, Total, Removed, Price, Kept, Terms, Order, Header, Standing, EnterOrder}
+use Rattle.rules.specs.Types.{Decision, Total, Removed, Price, Kept, Terms, Order, Header, Standing, EnterOrder}
 
 -- ---- faults that O and U share
 
@@ -34,32 +34,32 @@ bad_shares h shares = (shares equals total 0) || not (shares is_below h.threshol
 unfoldable pub bad_minimum : Removed → ℕ → Removed → Bool
 bad_minimum minimum time shares = ((minimum exceeds removed 0) && not (eqb time immediate)) || minimum exceeds shares
 
--- ---- the fault of an O: the first that applies
+-- ---- the fault of an O: the letter of the first that applies; and if none does, its price
 
 -- the last three, those above; of an order as entered all shares are open
-unfoldable pub fault_of_numbers : Header → EnterOrder → Fault
+unfoldable pub fault_of_numbers : Header → EnterOrder → Result Price ℕ
 fault_of_numbers h e =
     first_of
-    bad_price e.price e.cross ⇒ Letter invalid_price  -- X
-    ⨾ bad_shares h e.shares ⇒ Letter above_threshold  -- Z
-    ⨾ bad_minimum e.minimum e.time (open_shares (new_counts e.shares)) ⇒ Letter invalid_minimum  -- N
-    ⨾ Absent (record { 0 = e.price })
+    bad_price e.price e.cross ⇒ Err invalid_price  -- X
+    ⨾ bad_shares h e.shares ⇒ Err above_threshold  -- Z
+    ⨾ bad_minimum e.minimum e.time (open_shares (new_counts e.shares)) ⇒ Err invalid_minimum  -- N
+    ⨾ Ok (record { 0 = e.price })
 
 -- S: stock not 1 to 8 capitals then spaces, or not listed (Ask 2)
 unfoldable pub bad_stock : List ℕ → Standing → Bool
 bad_stock symbol stock = not (shaped symbol && is_listed_stock stock)
 
 -- day not open; firm not listed, and then whether it is blocked (Ask 5); stock, and then whether it is halted (Ask 2); cross not N O C; display; and then those
-unfoldable pub enter_fault : Header → List ℕ → Standing → EnterOrder → Fault
+unfoldable pub enter_fault : Header → List ℕ → Standing → EnterOrder → Result Price ℕ
 enter_fault h firm stock e =
     first_of
-    not (is_open_day h) ⇒ Letter closed  -- C
-    ⨾ not (is_listed h firm) ⇒ Letter firm_not_listed  -- L
-    ⨾ firm_blocked h firm ⇒ Letter all_rejected  -- a
-    ⨾ bad_stock e.stock stock ⇒ Letter invalid_stock  -- S
-    ⨾ is_halted stock ⇒ Letter stock_halted  -- H
-    ⨾ not (among crosses e.cross) ⇒ Letter not_in_this_cross  -- R
-    ⨾ bad_display e.display e.cross ⇒ Letter invalid_display  -- D
+    not (is_open_day h) ⇒ Err closed  -- C
+    ⨾ not (is_listed h firm) ⇒ Err firm_not_listed  -- L
+    ⨾ firm_blocked h firm ⇒ Err all_rejected  -- a
+    ⨾ bad_stock e.stock stock ⇒ Err invalid_stock  -- S
+    ⨾ is_halted stock ⇒ Err stock_halted  -- H
+    ⨾ not (among crosses e.cross) ⇒ Err not_in_this_cross  -- R
+    ⨾ bad_display e.display e.cross ⇒ Err invalid_display  -- D
     ⨾ fault_of_numbers h e
 
 -- ---- the order as accepted
@@ -98,9 +98,9 @@ entered_order h firm e price =
     }
 
 -- the letter is sent in a Rejected Message and the token stored as R; if there is none, Accepted
-unfoldable pub enter_outcome : Header → List ℕ → EnterOrder → Fault → Decision
-enter_outcome h firm e (Letter reason) = rejecting e.token reason
-enter_outcome h firm e (Absent price) = accepting (entered_order h firm e price)
+unfoldable pub enter_outcome : Header → List ℕ → EnterOrder → Result Price ℕ → Decision
+enter_outcome h firm e (Err reason) = rejecting e.token reason
+enter_outcome h firm e (Ok price) = accepting (entered_order h firm e price)
 
 -- Used token: 1. A blank firm means, and so becomes, the default. (`found` is what the entry's token means so far, `stock` how its stock stands.)
 unfoldable pub enter_rule : Header → Order → Standing → EnterOrder → Decision

@@ -5,26 +5,36 @@
 --     numbered  whether the order that is changed or added has taken the next reference
 --     notice    what is told
 --     stock     a listed stock and its state afterwards; no_stock if every stock stays as it is (Ask 2)
-use Rattle.std.specs.Prelude.{ℕ, Bool, true, false, List}
+use Rattle.std.specs.Prelude.{ℕ, Bool, true, false, List, Ok, Err}
 use Rattle.answers.specs.Answer.{is_done}
 use Rattle.octets.specs.Bytes.{zeros}
 use Rattle.octets.specs.Choice.{first_of◌, ◌⇒◌⨾◌}
 use Rattle.orders.specs.Order.{no_order, rejected_order}
-use Rattle.rules.specs.Types.{Order, Answer, Begins, Nothing, Day, Block, StockState, Decision, Notice, Silent, Rejected, Accepted, Replaced, SystemEvent, Done, Ignored}
+use Rattle.rules.specs.Types.{Order, Answer, Plan, Nothing, Day, Block, StockState, Decision, Notice, Silent, Rejected, Accepted, Replaced, SystemEvent, Done, Ignored}
 
 abbrev pub no_stock : StockState
 no_stock = record { symbol = zeros 8; state = 0 }
 
-abbrev pub decided : Answer → Begins → Order → Order → Bool → Notice → Decision
-decided answer begins changed added numbered notice =
-    record {
-      answer = answer;
-      plan = record { begins = begins; changed = changed; added = added; numbered = numbered; notice = notice; stock = no_stock };
-    }
-
 -- nothing changes and nothing is told
+abbrev pub empty_plan : Plan
+empty_plan = record { begins = Nothing; changed = no_order; added = no_order; numbered = false; notice = Silent; stock = no_stock }
+
+-- ---- a decision's answer, and its plan: the empty one where it is a refusal
+
+abbrev pub answer_of : Decision → Answer
+answer_of (Ok plan) = Done
+answer_of (Err r) = Err r
+
+abbrev pub plan_of : Decision → Plan
+plan_of (Ok plan) = plan
+plan_of (Err r) = empty_plan
+
+-- ---- refusals
+
+-- the decision that has this answer and changes nothing
 unfoldable pub refused : Answer → Decision
-refused answer = decided answer Nothing no_order no_order false Silent
+refused (Ok done) = Ok empty_plan
+refused (Err r) = Err r
 
 -- the refusal of a client's entry
 abbrev pub ignored : Decision
@@ -37,40 +47,36 @@ allowed answer d =
     is_done answer ⇒ d
     ⨾ refused answer
 
--- ---- the plans
+-- ---- the plans, each by what it has that the empty one has not
 
 -- the named order changes, and this is told of it
 unfoldable pub changing : Order → Notice → Decision
-changing o notice = decided Done Nothing o no_order false notice
+changing o notice = Ok (record empty_plan { changed = o; notice = notice })
 
 -- the same, and it has the next reference
 unfoldable pub renumbering : Order → Notice → Decision
-renumbering o notice = decided Done Nothing o no_order true notice
+renumbering o notice = Ok (record empty_plan { changed = o; numbered = true; notice = notice })
 
 -- a new order, with the next reference
 unfoldable pub accepting : Order → Decision
-accepting new = decided Done Nothing no_order new true Accepted
+accepting new = Ok (record empty_plan { added = new; numbered = true; notice = Accepted })
 
 -- the same, for the named order
 unfoldable pub replacing : Order → Order → Decision
-replacing old new = decided Done Nothing old new true Replaced
+replacing old new = Ok (record empty_plan { changed = old; added = new; numbered = true; notice = Replaced })
 
 -- a Rejected Message, and the token stored as R
 unfoldable pub rejecting : List ℕ → ℕ → Decision
-rejecting token reason = decided Done Nothing no_order (rejected_order token) false (Rejected reason)
+rejecting token reason = Ok (record empty_plan { added = rejected_order token; notice = Rejected reason })
 
 -- System Event, sets day
 unfoldable pub beginning : ℕ → ℕ → Decision
-beginning day event = decided Done (Day day) no_order no_order false (SystemEvent event)
+beginning day event = Ok (record empty_plan { begins = Day day; notice = SystemEvent event })
 
 -- a firm's bit, and nothing is sent (Ask 5)
 unfoldable pub blocking : ℕ → Bool → Decision
-blocking place on = decided Done (Block place on) no_order no_order false Silent
+blocking place on = Ok (record empty_plan { begins = Block place on })
 
 -- a stock's state, and nothing is sent (Ask 2)
 unfoldable pub setting : StockState → Decision
-setting e =
-    record {
-      answer = Done;
-      plan = record { begins = Nothing; changed = no_order; added = no_order; numbered = false; notice = Silent; stock = e };
-    }
+setting e = Ok (record empty_plan { stock = e })

@@ -1,5 +1,7 @@
 -- The values that the rules speak of, under their names.
+use Rattle.std.specs.Prelude.{Result}
 pub use Rattle.answers.specs.Answer.{Answer}
+pub use Rattle.answers.specs.declared.Refusal.{Refusal}
 pub use Rattle.answers.specs.Answer.{Done, Ignored}
 pub use Rattle.wire.specs.declared.shares.Total.{Total}
 pub use Rattle.wire.specs.declared.shares.Removed.{Removed}
@@ -18,11 +20,12 @@ pub use Rattle.orders.specs.declared.order.Kept.{Kept}
 pub use Rattle.orders.specs.declared.order.Terms.{Terms}
 pub use Rattle.orders.specs.declared.order.Details.{Details}
 pub use Rattle.orders.specs.declared.order.Order.{Order}
-pub use Rattle.rules.specs.declared.enter.Fault.{Fault}
-pub use Rattle.rules.specs.declared.enter.Fault.TheVariants.{Letter, Absent}
-pub use Rattle.rules.specs.declared.plan.Decision.{Decision}
 pub use Rattle.rules.specs.declared.plan.Notice.{Notice}
 pub use Rattle.rules.specs.declared.plan.Notice.TheVariants.{Accepted, AiqCancelled, CancelPending, CancelReject, Canceled, Executed, Modified, PriorityUpdate, Rejected, Replaced, Silent, SystemEvent}
 pub use Rattle.rules.specs.declared.plan.Begins.{Begins}
 pub use Rattle.rules.specs.declared.plan.Begins.TheVariants.{Nothing, Day, Block}
 pub use Rattle.rules.specs.declared.plan.Plan.{Plan}
+
+-- what a rule decides: a plan, or why the entry is refused
+abbrev pub Decision : Type 0
+Decision = Result Plan Refusal

@@ -3,7 +3,7 @@ ghost use Rattle.std.specs.Prelude.{◌≡◌, ◌<◌};
 ghost use Rattle.orders.specs.Counts.{open_shares};
 ghost use Rattle.rules.specs.Cancel.{new_open, cancel_ignored, decrement, canceled_order, late_cancel, cancel_rule};
 
-use crate::plan::{Decision, Notice, changing, refused};
+use crate::plan::{Decision, Notice, changing};
 use answers::Refusal;
 use inbound::cancel_order::CancelOrder;
 use orders::counts::{cut, open_shares};
@@ -15,8 +15,7 @@ use wire::shares::{Removed, Total};
 fn new_open(o: Order, size: Total) -> Removed
     ensures { result ≡ new_open o size }
 {
-    let executed = o.shares.executed;
-    size.less(executed)
+    size.less(o.shares.executed)
 }
 
 fn cancel_ignored(o: Order, size: Total) -> bool
@@ -49,7 +48,7 @@ fn late_cancel(o: Order, size: Total) -> Decision
         return changing(marked(o, Flag::Pending), Notice::CancelPending);
     }
     if is(o, Flag::RejectSent) {
-        return refused(Err(Refusal::Ignored));
+        return Err(Refusal::Ignored);
     }
     changing(marked(o, Flag::RejectSent), Notice::CancelReject)
 }
@@ -58,7 +57,7 @@ pub fn cancel(o: Order, e: CancelOrder) -> Decision
     ensures { result ≡ cancel_rule o e }
 {
     if cancel_ignored(o, e.size) {
-        return refused(Err(Refusal::Ignored));
+        return Err(Refusal::Ignored);
     }
     if is(o, Flag::Late) {
         return late_cancel(o, e.size);

@@ -1,5 +1,5 @@
 // What each client's entry does: header, orders and entry as values in, a plan out. No rule sees a byte of the table or the ring.
-#![tactic(auto)]
+#![tactic(auto, unfolding(crate::proofs::Opened::opened))]
 
 pub mod cancel;
 pub mod enter;

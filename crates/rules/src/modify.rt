@@ -2,7 +2,7 @@
 ghost use Rattle.std.specs.Prelude.{◌≡◌};
 ghost use Rattle.rules.specs.Modify.{side_allowed, modified_order, modify_ignored, modify_rule};
 
-use crate::plan::{Decision, Notice, changing, refused};
+use crate::plan::{Decision, Notice, changing};
 use answers::Refusal;
 use header::{Header, is_open_day};
 use inbound::modify_order::ModifyOrder;
@@ -20,14 +20,13 @@ fn side_allowed(before: u8, after: u8) -> bool
 fn modify_ignored(h: Header, o: Order, e: ModifyOrder) -> bool
     ensures { result ≡ modify_ignored h o e }
 {
-    let liable = o.shares.liable;
     !is_live(o)
         | !is_open_day(h)
         | is(o, Flag::Late)
         | !side_allowed(o.side, e.side)
         | !gone_is_below(o.shares, e.shares)
-        | liable.is_below(e.shares)
-        | ((o.side == e.side) & liable.equals(e.shares))
+        | o.shares.liable.is_below(e.shares)
+        | ((o.side == e.side) & o.shares.liable.equals(e.shares))
 }
 
 fn modified_order(o: Order, e: ModifyOrder) -> Order
@@ -40,7 +39,7 @@ pub fn modify(h: Header, o: Order, e: ModifyOrder) -> Decision
     ensures { result ≡ modify_rule h o e }
 {
     if modify_ignored(h, o, e) {
-        return refused(Err(Refusal::Ignored));
+        return Err(Refusal::Ignored);
     }
     changing(modified_order(o, e), Notice::Modified)
 }

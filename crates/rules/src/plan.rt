@@ -1,8 +1,8 @@
-// What a rule decides. The rules know neither bytes nor the ring: a plan is values only.
+// What a rule decides: a plan, or why the entry is refused. The rules know neither bytes nor the ring: a plan is values only.
 ghost use Rattle.std.specs.Prelude.{◌≡◌};
-ghost use Rattle.rules.specs.Plan.{no_stock, decided, refused, changing, renumbering, accepting, replacing, rejecting, beginning, blocking, setting};
+ghost use Rattle.rules.specs.Plan.{no_stock, empty_plan, changing, renumbering, accepting, replacing, rejecting, beginning, blocking, setting};
 
-use answers::Answer;
+use answers::Refusal;
 use orders::order::{Order, no_order, rejected_order};
 use tape::entry::{Execution, SelfMatch, StockState};
 use wire::shares::Removed;
@@ -48,12 +48,8 @@ pub struct Plan {
     pub stock: StockState,
 }
 
-// The plan is carried out where the answer is Done.
-#[derive(Clone, Copy)]
-pub struct Decision {
-    pub answer: Answer,
-    pub plan: Plan,
-}
+// A refusal has no plan, so nobody can carry out what was refused.
+pub type Decision = Result<Plan, Refusal>;
 
 fn no_stock() -> StockState
     ensures { result ≡ no_stock }
@@ -64,132 +60,101 @@ fn no_stock() -> StockState
     }
 }
 
-// What is about orders leaves all stocks as they are.
-fn decided(
-    answer: Answer,
-    begins: Begins,
-    changed: Order,
-    added: Order,
-    numbered: bool,
-    notice: Notice,
-) -> Decision
-    ensures { result ≡ decided answer begins changed added numbered notice }
+// Nothing changes and nothing is told. Each plan below says in what it differs from this one.
+fn empty_plan() -> Plan
+    ensures { result ≡ empty_plan }
 {
-    let plan = Plan {
-        begins,
-        changed,
-        added,
-        numbered,
-        notice,
+    Plan {
+        begins: Begins::Nothing,
+        changed: no_order(),
+        added: no_order(),
+        numbered: false,
+        notice: Notice::Silent,
         stock: no_stock(),
-    };
-    Decision { answer, plan }
-}
-
-// A refusal has a plan too, the empty one, so that nobody can carry out what was refused.
-pub fn refused(answer: Answer) -> Decision
-    ensures { result ≡ refused answer }
-{
-    let none = no_order();
-    decided(answer, Begins::Nothing, none, none, false, Notice::Silent)
+    }
 }
 
 pub fn changing(o: Order, notice: Notice) -> Decision
     ensures { result ≡ changing o notice }
 {
-    decided(Ok(()), Begins::Nothing, o, no_order(), false, notice)
+    Ok(Plan {
+        changed: o,
+        notice,
+        ..empty_plan()
+    })
 }
 
 pub fn renumbering(o: Order, notice: Notice) -> Decision
     ensures { result ≡ renumbering o notice }
 {
-    decided(Ok(()), Begins::Nothing, o, no_order(), true, notice)
+    Ok(Plan {
+        changed: o,
+        numbered: true,
+        notice,
+        ..empty_plan()
+    })
 }
 
 pub fn accepting(new: Order) -> Decision
     ensures { result ≡ accepting new }
 {
-    decided(
-        Ok(()),
-        Begins::Nothing,
-        no_order(),
-        new,
-        true,
-        Notice::Accepted,
-    )
+    Ok(Plan {
+        added: new,
+        numbered: true,
+        notice: Notice::Accepted,
+        ..empty_plan()
+    })
 }
 
 pub fn replacing(old: Order, new: Order) -> Decision
     ensures { result ≡ replacing old new }
 {
-    decided(
-        Ok(()),
-        Begins::Nothing,
-        old,
-        new,
-        true,
-        Notice::Replaced,
-    )
+    Ok(Plan {
+        changed: old,
+        added: new,
+        numbered: true,
+        notice: Notice::Replaced,
+        ..empty_plan()
+    })
 }
 
 // The token is used up, and what is rejected takes no reference.
 pub fn rejecting(token: [u8; 14], reason: u8) -> Decision
     ensures { result ≡ rejecting token reason }
 {
-    decided(
-        Ok(()),
-        Begins::Nothing,
-        no_order(),
-        rejected_order(token),
-        false,
-        Notice::Rejected(reason),
-    )
+    Ok(Plan {
+        added: rejected_order(token),
+        notice: Notice::Rejected(reason),
+        ..empty_plan()
+    })
 }
 
 pub fn beginning(day: u8, event: u8) -> Decision
     ensures { result ≡ beginning day event }
 {
-    let none = no_order();
-    decided(
-        Ok(()),
-        Begins::Day(day),
-        none,
-        none,
-        false,
-        Notice::SystemEvent(event),
-    )
+    Ok(Plan {
+        begins: Begins::Day(day),
+        notice: Notice::SystemEvent(event),
+        ..empty_plan()
+    })
 }
 
 // A firm is blocked or let in again, and nothing is told of it.
 pub fn blocking(place: usize, on: bool) -> Decision
     ensures { result ≡ blocking place on }
 {
-    let none = no_order();
-    decided(
-        Ok(()),
-        Begins::Block(place, on),
-        none,
-        none,
-        false,
-        Notice::Silent,
-    )
+    Ok(Plan {
+        begins: Begins::Block(place, on),
+        ..empty_plan()
+    })
 }
 
 // A stock's state is set, and nothing is told of it.
 pub fn setting(e: StockState) -> Decision
     ensures { result ≡ setting e }
 {
-    let none = no_order();
-    let plan = Plan {
-        begins: Begins::Nothing,
-        changed: none,
-        added: none,
-        numbered: false,
-        notice: Notice::Silent,
+    Ok(Plan {
         stock: e,
-    };
-    Decision {
-        answer: Ok(()),
-        plan,
-    }
+        ..empty_plan()
+    })
 }

@@ -3,7 +3,7 @@ ghost use Rattle.std.specs.Prelude.{◌≡◌};
 ghost use Rattle.rules.specs.Replace.{bad_beside_price, replacement_order, canceled_whole, replace_open, replace_rule};
 
 use crate::enter::{accepted_terms, bad_display, bad_minimum, bad_shares};
-use crate::plan::{Decision, Notice, changing, refused, rejecting, replacing};
+use crate::plan::{Decision, Notice, changing, rejecting, replacing};
 use answers::Refusal;
 use header::{Header, is_open_day};
 use inbound::replace_order::ReplaceOrder;
@@ -16,36 +16,32 @@ use wire::price::{Price, Priced};
 fn bad_beside_price(h: Header, old: Order, e: ReplaceOrder) -> bool
     ensures { result ≡ bad_beside_price h old e }
 {
-    let minimum = e.minimum;
     let new_open = less_gone(e.shares, old.shares);
     bad_shares(h, e.shares)
         | !gone_is_below(old.shares, e.shares)
         | bad_display(e.display, old.details.kept.cross)
-        | bad_minimum(minimum, e.time, new_open)
+        | bad_minimum(e.minimum, e.time, new_open)
 }
 
 fn replacement_order(h: Header, old: Order, e: ReplaceOrder, price: Price) -> Order
     ensures { result ≡ replacement_order h old e price }
 {
+    // the borrow checker takes an array into a literal by a variable alone
     let token = e.replacement;
-    let shares = with_liable(old.shares, e.shares);
-    let kept = old.details.kept;
-    let minimum = e.minimum;
     let previous = e.existing;
-    let details = Details {
-        kept,
-        terms: accepted_terms(price, e.time, e.display, e.sweep, minimum),
-        reference: h.reference,
-        previous,
-        spare: 0,
-    };
     Order {
         state: b'L',
         token,
         side: old.side,
-        shares,
+        shares: with_liable(old.shares, e.shares),
         flags: 0,
-        details,
+        details: Details {
+            kept: old.details.kept,
+            terms: accepted_terms(price, e.time, e.display, e.sweep, e.minimum),
+            reference: h.reference,
+            previous,
+            spare: 0,
+        },
     }
 }
 
@@ -75,17 +71,16 @@ pub fn replace(h: Header, old: Order, found: Order, standing: Standing, e: Repla
     ensures { result ≡ replace_rule h old found standing e }
 {
     if !is_live(old) | is_used(found) {
-        return refused(Err(Refusal::Ignored));
+        return Err(Refusal::Ignored);
     }
-    let token = e.replacement;
     if !is_open_day(h) {
-        return rejecting(token, b'C');
+        return rejecting(e.replacement, b'C');
     }
     if is(old, Flag::Late) {
-        return rejecting(token, b'R');
+        return rejecting(e.replacement, b'R');
     }
     if is_halted(standing) {
-        return rejecting(token, b'H');
+        return rejecting(e.replacement, b'H');
     }
     replace_open(h, old, e)
 }

@@ -1,5 +1,4 @@
--- Where the token is found, or what a purge is about, or behind the used records. In a sound table the bits lead to what a purge is about. Assumes
--- nothing.
+-- What a purge is about is found by the bits, in a sound table. Assumes nothing.
 use Rattle.octets.proofs.Proving.{◌∙◌, answered, leb-true}
 use Rattle.orders.proofs.Wanting.{wanted-live}
 use Rattle.table.proofs.Finding.{by-the-bits}
@@ -12,10 +11,6 @@ pub token_of-requires : goal.token_of-requires
 unfolding names_order
 token_of-requires c = leb-true _ _ (answered c.names_order.ensures c.if-names_order.true)
 
-pub returns-then-names_order : goal.returns-then-names_order
-unfolding named_place
-returns-then-names_order c = rw (answered c.names_order.ensures c.if-names_order.true, ← c.token_of.ensures) c.find.ensures
-
 -- what begins as a w has its length
 pub purge_of-requires : goal.purge_of-requires
 purge_of-requires c = purge-long _ c.requires.1 c.purges.ensures c.if-purges.true
@@ -26,9 +21,3 @@ returns-then-purges c =
     let asked = c in
     rw (answered asked.names_order.ensures asked.if-names_order.false, answered asked.purges.ensures asked.if-purges.true, ← c.purge_of.ensures, ← c.wanted_by.ensures)
     (c.find_wanted.ensures ∙ by-the-bits _ asked.requires.0 _ (wanted-live _))
-
-pub returns : goal.returns
-unfolding named_place
-returns c =
-    let asked = c in
-    rw (answered asked.names_order.ensures asked.if-names_order.false, answered asked.purges.ensures asked.if-purges.false) c.used.ensures
