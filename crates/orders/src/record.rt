@@ -20,13 +20,10 @@ pub(crate) fn counts_of(s: &[u8]) -> Counts
     requires { length s.now ≡ record_size }
     ensures { result ≡ (order_of s.now).shares }
 {
-    let liable = Total(be32(s, 16));
-    let executed = Total(be32(s, 20));
-    let matched = Total(be32(s, 24));
     Counts {
-        liable,
-        executed,
-        matched,
+        liable: Total(be32(s, 16)),
+        executed: Total(be32(s, 20)),
+        matched: Total(be32(s, 24)),
     }
 }
 
@@ -34,11 +31,9 @@ fn kept_of(s: &[u8]) -> Kept
     requires { length s.now ≡ record_size }
     ensures { result ≡ (order_of s.now).details.kept }
 {
-    let stock = bytes8_at(s, 28);
-    let firm = bytes4_at(s, 44);
     Kept {
-        stock,
-        firm,
+        stock: bytes8_at(s, 28),
+        firm: bytes4_at(s, 44),
         capacity: byte_at(s, 49),
         cross: byte_at(s, 55),
     }
@@ -61,14 +56,11 @@ fn details_of(s: &[u8]) -> Details
     requires { length s.now ≡ record_size }
     ensures { result ≡ (order_of s.now).details }
 {
-    let kept = kept_of(s);
-    let terms = terms_of(s);
-    let previous = bytes14_at(s, 65);
     Details {
-        kept,
-        terms,
+        kept: kept_of(s),
+        terms: terms_of(s),
         reference: be64(s, 56),
-        previous,
+        previous: bytes14_at(s, 65),
         spare: byte_at(s, 79),
     }
 }
@@ -77,16 +69,13 @@ pub fn order_of(s: &[u8]) -> Order
     requires { length s.now ≡ record_size }
     ensures { result ≡ order_of s.now }
 {
-    let token = bytes14_at(s, 1);
-    let shares = counts_of(s);
-    let details = details_of(s);
     Order {
         state: byte_at(s, 0),
-        token,
+        token: bytes14_at(s, 1),
         side: byte_at(s, 15),
-        shares,
+        shares: counts_of(s),
         flags: byte_at(s, 64),
-        details,
+        details: details_of(s),
     }
 }
 
@@ -95,26 +84,22 @@ fn put_opening(s: &mut [u8], o: Order)
     requires { length s.old ≡ record_size }
     ensures { (s.new ≡ put s.old 0 (opening o)) × (length (opening o) ≡ 28) }
 {
-    let token = o.token;
-    let shares = o.shares;
     put_byte(s, 0, o.state);
-    put_bytes14(s, 1, token);
+    put_bytes14(s, 1, o.token);
     put_byte(s, 15, o.side);
-    put_be32(s, 16, shares.liable.0);
-    put_be32(s, 20, shares.executed.0);
-    put_be32(s, 24, shares.matched.0);
+    put_be32(s, 16, o.shares.liable.0);
+    put_be32(s, 20, o.shares.executed.0);
+    put_be32(s, 24, o.shares.matched.0);
 }
 
 fn put_traded(s: &mut [u8], details: Details)
     requires { length s.old ≡ record_size }
     ensures { (s.new ≡ put s.old 28 (traded details)) × (length (traded details) ≡ 20) }
 {
-    let stock = details.kept.stock;
-    let firm = details.kept.firm;
-    put_bytes8(s, 28, stock);
+    put_bytes8(s, 28, details.kept.stock);
     put_be32(s, 36, details.terms.price);
     put_be32(s, 40, details.terms.time);
-    put_bytes4(s, 44, firm);
+    put_bytes4(s, 44, details.kept.firm);
 }
 
 fn put_letters(s: &mut [u8], details: Details)
@@ -132,10 +117,9 @@ fn put_ending(s: &mut [u8], flags: u8, details: Details)
     requires { length s.old ≡ record_size }
     ensures { (s.new ≡ put s.old 56 (ending flags details)) × (length (ending flags details) ≡ 24) }
 {
-    let previous = details.previous;
     put_be64(s, 56, details.reference);
     put_byte(s, 64, flags);
-    put_bytes14(s, 65, previous);
+    put_bytes14(s, 65, details.previous);
     put_byte(s, 79, details.spare);
 }
 
@@ -144,9 +128,8 @@ pub fn put_order(s: &mut [u8], o: Order)
     requires { length s.old ≡ record_size }
     ensures { (s.new ≡ order_bytes o) × (length (order_bytes o) ≡ record_size) }
 {
-    let details = o.details;
     put_opening(s, o);
-    put_traded(s, details);
-    put_letters(s, details);
-    put_ending(s, o.flags, details);
+    put_traded(s, o.details);
+    put_letters(s, o.details);
+    put_ending(s, o.flags, o.details);
 }

@@ -53,12 +53,9 @@ fn meets(r: &[u8], wanted: Wanted) -> bool
     requires { length r.now ≡ record_size }
     ensures { result ≡ meets_by wanted.by wanted (order_of r.now) }
 {
-    let by = wanted.by;
-    let firm = wanted.firm;
-    let symbol = wanted.symbol;
-    match by {
-        By::Firm => has_firm(r, firm),
-        By::Stock => has_both(r, firm, symbol),
+    match wanted.by {
+        By::Firm => has_firm(r, wanted.firm),
+        By::Stock => has_both(r, wanted.firm, wanted.symbol),
     }
 }
 
