@@ -57,8 +57,6 @@ pub fn header_of(s: &[u8]) -> Header
     requires { length s.now ≡ sum_place }
     ensures { result ≡ header_of s.now }
 {
-    let threshold = Total(octets::be32(s, 24));
-    let firms = octets::bytes32_at(s, 28);
     Header {
         day: octets::byte_at(s, 0),
         count: octets::byte_at(s, 1),
@@ -66,8 +64,8 @@ pub fn header_of(s: &[u8]) -> Header
         used: octets::be32(s, 4),
         last: octets::be64(s, 8),
         reference: octets::be64(s, 16),
-        threshold,
-        firms,
+        threshold: Total(octets::be32(s, 24)),
+        firms: octets::bytes32_at(s, 28),
     }
 }
 
@@ -88,10 +86,9 @@ fn put_standing(s: &mut [u8], h: Header)
     requires { length s.old ≡ sum_place }
     ensures { (s.new ≡ put s.old 16 (standing h)) × (length (standing h) ≡ 44) }
 {
-    let firms = h.firms;
     octets::put_be64(s, 16, h.reference);
     octets::put_be32(s, 24, h.threshold.0);
-    octets::put_bytes32(s, 28, firms);
+    octets::put_bytes32(s, 28, h.firms);
 }
 
 // The bytes of the header's value, over what is there.

@@ -37,12 +37,11 @@ pub fn header_sound(s: &[u8], records: usize) -> bool
     ensures { result ≡ header_sound s.now records }
 {
     let h = header_of(s);
-    let firms = h.firms;
     let count = h.count as usize;
     if numbers_good(s, h) {
         (h.used as usize <= records)
-            & firms_shaped(firms, count)
-            & rest_blank(firms, count)
+            & firms_shaped(h.firms, count)
+            & rest_blank(h.firms, count)
             & none_from(h.blocked, count)
     } else {
         false
