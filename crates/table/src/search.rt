@@ -43,14 +43,11 @@ pub fn find_wanted(table: &[u8], wanted: Wanted) -> usize
     ensures { result ≡ first_marked table.now (is_wanted wanted) }
 {
     let n = used(table);
-    let end = bit_bytes(table).len();
-    let mut at: usize = 0;
-    while at < end {
+    for at in 0..bit_bytes(table).len() {
         let i = among_eight(table, wanted, n, at);
         if i < 8 * at + 8 {
             return i;
         }
-        at += 1;
     }
     n
 }

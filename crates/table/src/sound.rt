@@ -47,10 +47,8 @@ fn eight_live(table: &[u8], at: usize) -> u8
     ensures { result ≡ packed 8 (λ j. is_live (order_at table.now (8 * at + j))) }
 {
     let mut byte: u8 = 0;
-    let mut j: usize = 0;
-    while j < 8 {
+    for j in 0..8 {
         byte = with_bit(byte, j, lives(record_bytes(table, 8 * at + j)));
-        j += 1;
     }
     byte
 }
@@ -62,10 +60,8 @@ fn bytes_agree(table: &[u8], m: usize) -> bool
 {
     let bits = bit_bytes(table);
     let mut ok = true;
-    let mut at: usize = 0;
-    while at < m {
+    for at in 0..m {
         ok = ok & (bits[at] == eight_live(table, at));
-        at += 1;
     }
     ok
 }
@@ -77,10 +73,8 @@ fn rest_agrees(table: &[u8], from: usize, n: usize) -> bool
 {
     let bits = bit_bytes(table);
     let mut ok = true;
-    let mut i: usize = from;
-    while i < n {
+    for i in from..n {
         ok = ok & (bit_at(bits, i) == lives(record_bytes(table, i)));
-        i += 1;
     }
     ok
 }
@@ -99,13 +93,10 @@ fn records_sound(table: &[u8]) -> bool
     ensures { result ≡ (all_below (used_in table.now) (λ i. record_sound (record_bytes table.now i)) && (bits_good table.now && sum_good table.now)) }
 {
     let n = used(table);
-    let found = walk(table, n);
-    if found.ok {
-        return bits_agree(table, n)
-            & clear_from(bit_bytes(table), n)
-            & (open_sum(table) as u64 == found.sum);
-    }
-    false
+    let Some(sum) = walk(table, n) else {
+        return false;
+    };
+    bits_agree(table, n) & clear_from(bit_bytes(table), n) & (open_sum(table) as u64 == sum)
 }
 
 pub fn sound(table: &[u8]) -> bool
