@@ -16,8 +16,7 @@ use wire::shares::{Removed, Total};
 // How many bytes a record has.
 pub const RECORD_SIZE: usize = 80;
 
-pub(crate) fn counts_of(s: &[u8]) -> Counts
-    requires { length s.now ≡ record_size }
+pub(crate) fn counts_of(s: &[u8; RECORD_SIZE]) -> Counts
     ensures { result ≡ (order_of s.now).shares }
 {
     Counts {
@@ -27,8 +26,7 @@ pub(crate) fn counts_of(s: &[u8]) -> Counts
     }
 }
 
-fn kept_of(s: &[u8]) -> Kept
-    requires { length s.now ≡ record_size }
+fn kept_of(s: &[u8; RECORD_SIZE]) -> Kept
     ensures { result ≡ (order_of s.now).details.kept }
 {
     Kept {
@@ -39,8 +37,7 @@ fn kept_of(s: &[u8]) -> Kept
     }
 }
 
-fn terms_of(s: &[u8]) -> Terms
-    requires { length s.now ≡ record_size }
+fn terms_of(s: &[u8; RECORD_SIZE]) -> Terms
     ensures { result ≡ (order_of s.now).details.terms }
 {
     Terms {
@@ -52,8 +49,7 @@ fn terms_of(s: &[u8]) -> Terms
     }
 }
 
-fn details_of(s: &[u8]) -> Details
-    requires { length s.now ≡ record_size }
+fn details_of(s: &[u8; RECORD_SIZE]) -> Details
     ensures { result ≡ (order_of s.now).details }
 {
     Details {
@@ -65,8 +61,7 @@ fn details_of(s: &[u8]) -> Details
     }
 }
 
-pub fn order_of(s: &[u8]) -> Order
-    requires { length s.now ≡ record_size }
+pub fn order_of(s: &[u8; RECORD_SIZE]) -> Order
     ensures { result ≡ order_of s.now }
 {
     Order {

@@ -1,8 +1,7 @@
 // When the 80 bytes of a used record are sound. A table is judged record by record at every step, so the tests of a token and of a state are
 // gathered without a branch. Between the two stands one, which in a sound table always goes the same way: measured, it is faster.
-ghost use Rattle.std.specs.Prelude.{◌≡◌, length};
+ghost use Rattle.std.specs.Prelude.{◌≡◌};
 ghost use Rattle.wire.specs.Layout.{no_bad_place};
-ghost use Rattle.orders.specs.Limits.{record_size};
 ghost use Rattle.orders.specs.Counts.{Counts};
 ghost use Rattle.orders.specs.Order.{record_layout};
 ghost use Rattle.orders.specs.Sound.{liable_good, counted_sound, state_verdict, verdict_on};
@@ -20,8 +19,7 @@ pub const MOST_SHARES: u32 = 999_999;
 const TOKEN_END: usize = 15;
 
 // A record's token is legal. The loop takes 32 bytes, of which those outside the token are free: in steps of 16 it is much the faster.
-fn token_legal(r: &[u8]) -> bool
-    requires { length r.now ≡ record_size }
+fn token_legal(r: &[u8; RECORD_SIZE]) -> bool
     ensures { result ≡ no_bad_place record_layout r.now }
 {
     let mut ok = true;
@@ -46,8 +44,7 @@ fn counted_sound(state: u8, s: Counts) -> bool
 }
 
 // What is open of a record whose token is legal; none where it is not sound.
-fn state_verdict(r: &[u8]) -> Option<Removed>
-    requires { length r.now ≡ record_size }
+fn state_verdict(r: &[u8; RECORD_SIZE]) -> Option<Removed>
     ensures { result ≡ state_verdict r.now }
 {
     let state = byte_at(r, 0);
@@ -59,8 +56,7 @@ fn state_verdict(r: &[u8]) -> Option<Removed>
 }
 
 // What is open of a record; none where it is not sound. Its counts are read once, for both.
-pub fn judge_record(r: &[u8]) -> Option<Removed>
-    requires { length r.now ≡ record_size }
+pub fn judge_record(r: &[u8; RECORD_SIZE]) -> Option<Removed>
     ensures { result ≡ verdict_on r.now }
 {
     if token_legal(r) {

@@ -45,17 +45,17 @@ pub(crate) fn record_place(table: &[u8], i: usize) -> usize
 }
 
 // The 80 bytes of a record that lies in the bytes, whether there are bits behind the records or not.
-pub fn record_at(table: &[u8], i: usize) -> &[u8]
+pub fn record_at(table: &[u8], i: usize) -> &[u8; RECORD_SIZE]
     requires { header_size + record_size * i + record_size ≤ length table.now }
-    ensures { (result.now ≡ record_bytes table.now i) × (length result.now ≡ record_size) }
+    ensures { result.now ≡ record_bytes table.now i }
 {
-    let at = HEADER_SIZE + RECORD_SIZE * i;
-    &table[at..at + RECORD_SIZE]
+    let place = HEADER_SIZE + RECORD_SIZE * i;
+    table[place..].first_chunk().unwrap()
 }
 
-pub(crate) fn record_bytes(table: &[u8], i: usize) -> &[u8]
+pub(crate) fn record_bytes(table: &[u8], i: usize) -> &[u8; RECORD_SIZE]
     requires { HasRecord table.now i }
-    ensures { (result.now ≡ record_bytes table.now i) × (length result.now ≡ record_size) }
+    ensures { result.now ≡ record_bytes table.now i }
 {
     record_at(table, i)
 }

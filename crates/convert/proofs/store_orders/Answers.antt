@@ -32,5 +32,5 @@ loop-i-preserved c =
       omega arith,
       omega arith,
       order-next a.old.now a.table.now _ l.i _ (stored.store_order.ensures ∙ ap (λ (t : List ℕ). store_order t l.i read.order_of.result) l.invariant.2)
-          (read.order_of.ensures ∙ ap order_of read.record_at.ensures.0),
+          (read.order_of.ensures ∙ ap order_of read.record_at.ensures),
     )

@@ -14,10 +14,9 @@ use Rattle.orders.proofs.sound.state_verdict.Goals as goal
 pub returns-then-state-eq82 : goal.returns-then-state-eq82
 unfolding order_of
 returns-then-state-eq82 c =
-    let start = c in
-    let s = start.args.r.now in
+    let s = c.args.r.now in
     let e : (order_of s).state ≡ rejected_token = sym c.byte_at-state.ensures ∙ c.if-state-eq82.true in
-    let zeros = c.are_zero.ensures ∙ ap (all_are 0) (take_all 65 (drop 15 s) (simp length-drop (omega (arith, start.requires)))) in
+    let zeros = c.are_zero.ensures ∙ ap (all_are 0) (take_all 65 (drop 15 s) (simp length-drop (omega arith))) in
     c.then_some.ensures ∙ verdict-rejected s c.are_zero.result e (zeros ∙ sym (state-rejected s (order_of s) e))
 
 pub returns : goal.returns

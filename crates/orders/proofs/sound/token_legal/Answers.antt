@@ -19,4 +19,4 @@ pub returns : goal.returns
 returns c =
     let r = c.args.r.now in
     let e : c.loop-k.k ≡ 32 = omega arith in
-    c.loop-k.invariant ∙ ap (λ n. all_below n (token_place r)) e ∙ token-tests r (omega (arith, c.requires))
+    c.loop-k.invariant ∙ ap (λ n. all_below n (token_place r)) e ∙ token-tests r (omega arith)

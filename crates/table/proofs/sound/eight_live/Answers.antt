@@ -30,7 +30,7 @@ unfolding order_at
 loop-j-preserved c =
     let a = c.args in
     let l = c.loop-j in
-    let here = c.lives.ensures ∙ ap (λ (r : List ℕ). is_live (order_of r)) c.record_bytes.ensures.0 in
+    let here = c.lives.ensures ∙ ap (λ (r : List ℕ). is_live (order_of r)) c.record_bytes.ensures in
     c.with_bit-byte.ensures ∙ next a.table.now a.at l.j l.byte _ l.invariant here
 
 pub returns : goal.returns

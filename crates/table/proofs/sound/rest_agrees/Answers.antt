@@ -18,5 +18,5 @@ loop-i-preserved c =
     let a = c.args in
     let l = c.loop-i in
     let bit = c.bit_at.ensures ∙ ap (λ (b : List ℕ). bit_at b l.i) c.bit_bytes-bits.ensures in
-    let live = c.lives.ensures ∙ ap (λ (r : List ℕ). is_live (order_of r)) c.record_bytes.ensures.0 in
+    let live = c.lives.ensures ∙ ap (λ (r : List ℕ). is_live (order_of r)) c.record_bytes.ensures in
     one_more a.table.now a.from l.i (omega arith) l.invariant (ap₂ beq bit live)

@@ -23,7 +23,7 @@ loop-i-preserved c =
     let t = c.args.table.now in
     let l = c.loop-i in
     let r = record_bytes t l.i in
-    let found : Some c.in_ok-open.open ≡ verdict_on r = sym c.in_ok-open.was ∙ c.judge_record.ensures ∙ ap verdict_on c.record_at.ensures.0 in
+    let found : Some c.in_ok-open.open ≡ verdict_on r = sym c.in_ok-open.was ∙ c.judge_record.ensures ∙ ap verdict_on c.record_at.ensures in
     let told = some-told (record_sound r) _ found in
     let same : c.in_ok-open.open.0 ≡ (open_of (order_of r)).0 = ap (λ (x : Removed). x.0) told.1 in (
       all_true (λ j. record_sound (record_bytes t j)) l.i l.invariant.0 told.0,
@@ -36,7 +36,7 @@ unfolding verdict_on found_in
 returns-in_err-open c =
     let t = c.args.table.now in
     let i = c.loop-i.i in
-    let fails = none-told (record_sound (record_bytes t i)) _ (sym c.in_err-open.was ∙ c.judge_record.ensures ∙ ap verdict_on c.record_at.ensures.0) in
+    let fails = none-told (record_sound (record_bytes t i)) _ (sym c.in_err-open.was ∙ c.judge_record.ensures ∙ ap verdict_on c.record_at.ensures) in
     c.from_residual.ensures ∙ sym (rw (all-false (λ j. record_sound (record_bytes t j)) c.args.n i (omega arith) fails))
 
 pub returns : goal.returns
