@@ -53,8 +53,7 @@ pub struct Header {
     pub firms: [u8; 32],
 }
 
-pub fn header_of(s: &[u8]) -> Header
-    requires { length s.now ≡ sum_place }
+pub fn header_of(s: &[u8; SUM_PLACE]) -> Header
     ensures { result ≡ header_of s.now }
 {
     Header {
@@ -70,8 +69,7 @@ pub fn header_of(s: &[u8]) -> Header
 }
 
 // The bytes are written in two runs: what the steps of a day move, then what stands from the fresh call on but for the reference.
-fn put_moments(s: &mut [u8], h: Header)
-    requires { length s.old ≡ sum_place }
+fn put_moments(s: &mut [u8; SUM_PLACE], h: Header)
     ensures { (s.new ≡ put s.old 0 (moments h)) × (length (moments h) ≡ 16) }
 {
     octets::put_byte(s, 0, h.day);
@@ -82,8 +80,7 @@ fn put_moments(s: &mut [u8], h: Header)
     octets::put_be64(s, 8, h.last);
 }
 
-fn put_standing(s: &mut [u8], h: Header)
-    requires { length s.old ≡ sum_place }
+fn put_standing(s: &mut [u8; SUM_PLACE], h: Header)
     ensures { (s.new ≡ put s.old 16 (standing h)) × (length (standing h) ≡ 44) }
 {
     octets::put_be64(s, 16, h.reference);
@@ -92,8 +89,7 @@ fn put_standing(s: &mut [u8], h: Header)
 }
 
 // The bytes of the header's value, over what is there.
-pub fn put_header(s: &mut [u8], h: Header)
-    requires { length s.old ≡ sum_place }
+pub fn put_header(s: &mut [u8; SUM_PLACE], h: Header)
     ensures { (s.new ≡ header_bytes h) × (length (header_bytes h) ≡ sum_place) }
 {
     put_moments(s, h);

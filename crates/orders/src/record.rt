@@ -75,8 +75,7 @@ pub fn order_of(s: &[u8; RECORD_SIZE]) -> Order
 }
 
 // The bytes are written in four runs, each from where the last one ended.
-fn put_opening(s: &mut [u8], o: Order)
-    requires { length s.old ≡ record_size }
+fn put_opening(s: &mut [u8; RECORD_SIZE], o: Order)
     ensures { (s.new ≡ put s.old 0 (opening o)) × (length (opening o) ≡ 28) }
 {
     put_byte(s, 0, o.state);
@@ -87,8 +86,7 @@ fn put_opening(s: &mut [u8], o: Order)
     put_be32(s, 24, o.shares.matched.0);
 }
 
-fn put_traded(s: &mut [u8], details: Details)
-    requires { length s.old ≡ record_size }
+fn put_traded(s: &mut [u8; RECORD_SIZE], details: Details)
     ensures { (s.new ≡ put s.old 28 (traded details)) × (length (traded details) ≡ 20) }
 {
     put_bytes8(s, 28, details.kept.stock);
@@ -97,8 +95,7 @@ fn put_traded(s: &mut [u8], details: Details)
     put_bytes4(s, 44, details.kept.firm);
 }
 
-fn put_letters(s: &mut [u8], details: Details)
-    requires { length s.old ≡ record_size }
+fn put_letters(s: &mut [u8; RECORD_SIZE], details: Details)
     ensures { (s.new ≡ put s.old 48 (letters details)) × (length (letters details) ≡ 8) }
 {
     put_byte(s, 48, details.terms.display);
@@ -108,8 +105,7 @@ fn put_letters(s: &mut [u8], details: Details)
     put_byte(s, 55, details.kept.cross);
 }
 
-fn put_ending(s: &mut [u8], flags: u8, details: Details)
-    requires { length s.old ≡ record_size }
+fn put_ending(s: &mut [u8; RECORD_SIZE], flags: u8, details: Details)
     ensures { (s.new ≡ put s.old 56 (ending flags details)) × (length (ending flags details) ≡ 24) }
 {
     put_be64(s, 56, details.reference);
@@ -118,11 +114,13 @@ fn put_ending(s: &mut [u8], flags: u8, details: Details)
     put_byte(s, 79, details.spare);
 }
 
-// The order's 80 bytes, over what is there.
+// The order's 80 bytes, over what is there. They come as a slice: of a part of the table that is lent as an array the check knows nothing more once
+// it is back.
 pub fn put_order(s: &mut [u8], o: Order)
     requires { length s.old ≡ record_size }
     ensures { (s.new ≡ order_bytes o) × (length (order_bytes o) ≡ record_size) }
 {
+    let s = s.as_mut_array().unwrap();
     put_opening(s, o);
     put_traded(s, o.details);
     put_letters(s, o.details);

@@ -13,7 +13,7 @@ use crate::store::open_sum;
 use crate::walk::walk;
 use bitrow::{bit_at, clear_from};
 use header::sound::header_sound;
-use header::{HEADER_SIZE, SUM_PLACE};
+use header::HEADER_SIZE;
 use octets::bits::with_bit;
 use orders::live::lives;
 use orders::record::RECORD_SIZE;
@@ -102,9 +102,8 @@ fn records_sound(table: &[u8]) -> bool
 pub fn sound(table: &[u8]) -> bool
     ensures { result ≡ sound table.now }
 {
-    let blank = [0u8; SUM_PLACE];
     if size_good(table) {
-        if header_sound(head_bytes(table, &blank), records_in(table)) {
+        if header_sound(head_bytes(table), records_in(table)) {
             return records_sound(table);
         }
     }

@@ -47,8 +47,7 @@ fn mark(table: &mut [u8], i: usize, live: bool)
     ensures { (table.new ≡ with_mark table.old i live) × (header_size ≤ length table.new) }
 {
     let place = HEADER_SIZE + RECORD_SIZE * records_in(table);
-    let end = table.len();
-    set_bit(&mut table[place..end], i, live);
+    set_bit(&mut table[place..], i, live);
 }
 
 // What is kept of a record is kept of the bytes that stand there. In a damaged table less may be said to be open of all orders than of one.
