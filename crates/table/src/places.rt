@@ -48,7 +48,7 @@ pub fn record_at(table: &[u8], i: usize) -> &[u8; RECORD_SIZE]
     ensures { result.now ≡ record_bytes table.now i }
 {
     let place = HEADER_SIZE + RECORD_SIZE * i;
-    table[place..].first_chunk().unwrap()
+    table[place..place + RECORD_SIZE].as_array().unwrap()
 }
 
 pub(crate) fn record_bytes(table: &[u8], i: usize) -> &[u8; RECORD_SIZE]
@@ -72,14 +72,15 @@ pub fn header(table: &[u8]) -> Header
     header_of(head_bytes(table))
 }
 
-// How many records are used, of those that there are; asked by itself since judging and finding need no more of the header.
+// How many records are used, of those that there are; asked by itself since judging and finding need no more of the header, and in words since through
+// `head_bytes` the number would be read byte by byte.
 pub fn used(table: &[u8]) -> usize
     ensures { result ≡ used_in table.now }
 {
-    least(
-        octets::be32(head_bytes(table), 4) as usize,
-        records_in(table),
-    )
+    if table.len() < HEADER_SIZE {
+        return 0;
+    }
+    least(octets::be32(table, 4) as usize, records_in(table))
 }
 
 pub(crate) fn order_at(table: &[u8], i: usize) -> Order
