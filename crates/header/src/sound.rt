@@ -38,12 +38,9 @@ pub fn header_sound(s: &[u8; SUM_PLACE], records: usize) -> bool
 {
     let h = header_of(s);
     let count = h.count as usize;
-    if numbers_good(s, h) {
-        (h.used as usize <= records)
+    numbers_good(s, h)
+        && ((h.used as usize <= records)
             & firms_shaped(h.firms, count)
             & rest_blank(h.firms, count)
-            & none_from(h.blocked, count)
-    } else {
-        false
-    }
+            & none_from(h.blocked, count))
 }

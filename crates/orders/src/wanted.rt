@@ -40,10 +40,7 @@ fn has_stock(r: &[u8; RECORD_SIZE], symbol: [u8; 8]) -> bool
 fn has_both(r: &[u8; RECORD_SIZE], firm: [u8; 4], symbol: [u8; 8]) -> bool
     ensures { result ≡ (same (order_of r.now).details.kept.firm firm && same (order_of r.now).details.kept.stock symbol) }
 {
-    if has_firm(r, firm) {
-        return has_stock(r, symbol);
-    }
-    false
+    has_firm(r, firm) && has_stock(r, symbol)
 }
 
 fn meets(r: &[u8; RECORD_SIZE], wanted: Wanted) -> bool
@@ -59,8 +56,5 @@ fn meets(r: &[u8; RECORD_SIZE], wanted: Wanted) -> bool
 pub fn is_wanted(r: &[u8; RECORD_SIZE], wanted: Wanted) -> bool
     ensures { result ≡ is_wanted wanted (order_of r.now) }
 {
-    if lives(r) {
-        return !has_flag(byte_at(r, 64), Flag::Late) & meets(r, wanted);
-    }
-    false
+    lives(r) && (!has_flag(byte_at(r, 64), Flag::Late) & meets(r, wanted))
 }

@@ -42,7 +42,8 @@ pub(crate) fn record_place(table: &[u8], i: usize) -> usize
     HEADER_SIZE + RECORD_SIZE * i
 }
 
-// The 80 bytes of a record that lies in the bytes, whether there are bits behind the records or not.
+// The 80 bytes of a record that lies in the bytes, whether there are bits behind the records or not. They are cut out before they are taken as an array:
+// so the length is seen, and is not asked for each record anew.
 pub fn record_at(table: &[u8], i: usize) -> &[u8; RECORD_SIZE]
     requires { header_size + record_size * i + record_size ≤ length table.now }
     ensures { result.now ≡ record_bytes table.now i }

@@ -35,10 +35,7 @@ pub fn size_good(table: &[u8]) -> bool
     ensures { result ≡ size_good table.now }
 {
     let n = records_in(table);
-    if (FEWEST_RECORDS <= n) & (n <= MOST_RECORDS) {
-        return table.len() == table_size(n);
-    }
-    false
+    (FEWEST_RECORDS <= n) & (n <= MOST_RECORDS) && table.len() == table_size(n)
 }
 
 // The byte of bits that eight records should have. The loop is of a fixed length, and the compiler unrolls it.
@@ -102,10 +99,6 @@ fn records_sound(table: &[u8]) -> bool
 pub fn sound(table: &[u8]) -> bool
     ensures { result ≡ sound table.now }
 {
-    if size_good(table) {
-        if header_sound(head_bytes(table), records_in(table)) {
-            return records_sound(table);
-        }
-    }
-    false
+    size_good(table)
+        && (header_sound(head_bytes(table), records_in(table)) && records_sound(table))
 }
