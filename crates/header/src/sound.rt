@@ -6,9 +6,7 @@ ghost use Rattle.header.specs.Sound.{header_sound};
 
 use crate::firms::{MOST_FIRMS, firms_shaped, rest_blank};
 use crate::settings::{HIGHEST_THRESHOLD, LOWEST_THRESHOLD};
-use crate::{
-    CLOSED, END_OF_REFERENCES, FIRST_REFERENCE, Header, SUM_PLACE, TABLE_FORM, header_of,
-};
+use crate::{CLOSED, END_OF_REFERENCES, FIRST_REFERENCE, Header, SUM_PLACE, TABLE_FORM, header_of};
 use octets::bits::none_from;
 use octets::byte_at;
 use wire::places::STAMP_END;

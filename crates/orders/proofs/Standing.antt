@@ -2,9 +2,8 @@
 use Rattle.octets.proofs.Proving.{Bool, List, ◌&&◌, ◌+◌, ◌<◌, ◌∙◌, ◌≡◌, ◌≤◌, ◌⊎◌, ap, arith, drop, drop_at, eq-eqb, eqb, eqb-true, false, false≢true, inl, inr, le-leb, leb, leb-true, length, lt-ltb, ltb, ltb-true, refl, sub_self, subst, sym, true, ℕ}
 use Rattle.octets.specs.Bytes.{all_are, digits, number_of, number_from}
 use Rattle.octets.proofs.Below.{both}
-use Rattle.octets.specs.Choice.{pick, ◌⇒◌⨾◌}
+use Rattle.octets.specs.Choice.{◌⇒◌⨾◌}
 use Rattle.wire.specs.Shares.{removed}
-use Rattle.wire.specs.declared.shares.Removed.{Removed}
 use Rattle.wire.specs.Letters.{live, dead, rejected_token}
 use Rattle.wire.specs.Limits.{token_size}
 use Rattle.wire.specs.Layout.{no_bad_place}

@@ -12,8 +12,8 @@ use crate::places::{bit_bytes, head_bytes, record_bytes, records_in, used};
 use crate::store::open_sum;
 use crate::walk::walk;
 use bitrow::{bit_at, clear_from};
-use header::sound::header_sound;
 use header::HEADER_SIZE;
+use header::sound::header_sound;
 use octets::bits::with_bit;
 use orders::live::lives;
 use orders::record::RECORD_SIZE;
@@ -99,6 +99,5 @@ fn records_sound(table: &[u8]) -> bool
 pub fn sound(table: &[u8]) -> bool
     ensures { result ≡ sound table.now }
 {
-    size_good(table)
-        && (header_sound(head_bytes(table), records_in(table)) && records_sound(table))
+    size_good(table) && (header_sound(head_bytes(table), records_in(table)) && records_sound(table))
 }

@@ -1,5 +1,5 @@
 -- The loop's invariant: the first i orders are stored, and the table is as long as it was. The measure is what is left of n. Assumes nothing.
-use Rattle.octets.proofs.Proving.{List, ◌+◌, ◌-◌, ◌∙◌, ◌≡◌, add-one, ap, arith, refl, sym, ℕ}
+use Rattle.octets.proofs.Proving.{List, ◌+◌, ◌∙◌, ◌≡◌, add-one, ap, arith, refl, sym, ℕ}
 use Rattle.table.specs.Table.{order_at, store_order}
 use Rattle.orders.specs.Order.{order_of}
 use Rattle.orders.specs.declared.order.Order.{Order}

@@ -1,12 +1,11 @@
 -- A rejected token is judged by its zeros, any other record by its counts. Assumes nothing.
-use Rattle.octets.proofs.Proving.{List, ◌∙◌, ◌≡◌, ap, ap₂, arith, drop, length-drop, sym, take_all, ℕ}
+use Rattle.octets.proofs.Proving.{◌∙◌, ◌≡◌, ap, ap₂, arith, drop, length-drop, sym, take_all}
 use Rattle.std.specs.Bool.{then_some}
 use Rattle.octets.specs.Bytes.{all_are}
 use Rattle.wire.specs.Letters.{rejected_token}
-use Rattle.wire.specs.declared.shares.Removed.{Removed}
 use Rattle.orders.specs.Counts.{open_shares}
 use Rattle.orders.specs.Order.{order_of}
-use Rattle.orders.specs.Sound.{counted_sound, state_sound}
+use Rattle.orders.specs.Sound.{counted_sound}
 use Rattle.orders.proofs.Judged.{state-rejected, state-counted}
 use Rattle.orders.proofs.Standing.{verdict-rejected, verdict-counted}
 use Rattle.orders.proofs.sound.state_verdict.Goals as goal

@@ -18,5 +18,5 @@ returns c =
     let t = c.args.table.now in
     let long = length-take-le 60 t (omega arith) in
     let front : part t 4 4 ≡ part (take 60 t) 4 4 =
-        ap (λ (l : List ℕ). part l 4 4) (sym (take-append-drop 60 t)) ∙ part-front (take 60 t) (drop 60 t) 4 4 (omega (arith, long)) in
+    ap (λ (l : List ℕ). part l 4 4) (sym (take-append-drop 60 t)) ∙ part-front (take 60 t) (drop 60 t) 4 4 (omega (arith, long)) in
     rw (le-ltb _ 64 c.if-table-lt-HEADER_SIZE.false, c.least.ensures, c.be32.ensures, c.records_in.ensures, front)

@@ -1,9 +1,9 @@
 -- The walk, and where it finds nothing wrong, the bits and the sum. Assumes nothing.
-use Rattle.octets.proofs.Proving.{Bool, List, ◌∙◌, ◌≡◌, ap, arith, sym, true, ℕ}
+use Rattle.octets.proofs.Proving.{◌∙◌, arith, sym}
 use Rattle.octets.specs.Choice.{all_below}
 use Rattle.orders.specs.Sound.{record_sound}
 use Rattle.orders.proofs.Told.{none-told, some-told}
-use Rattle.table.specs.Table.{record_bytes, sum_below, open_at, sum_good}
+use Rattle.table.specs.Table.{record_bytes, sum_good}
 use Rattle.table.specs.Walk.{found_in}
 use Rattle.table.proofs.Stored.{used-within, bits-there}
 use Rattle.table.proofs.Soundness.{of_size, head-fits}

@@ -1,11 +1,11 @@
 -- A bit is asked in each turn. Assumes nothing.
-use Rattle.octets.proofs.Proving.{List, ◌-◌, ◌∙◌, ◌≡◌, ap, ap₂, arith, sub_self, ℕ}
+use Rattle.octets.proofs.Proving.{List, ◌∙◌, ap, ap₂, arith, sub_self, ℕ}
 use mathlib.Core.Bool.{beq}
 use Rattle.octets.specs.Choice.{all_below}
 use Rattle.bitrow.specs.Row.{bit_at}
 use Rattle.orders.specs.Order.{order_of, is_live}
 use Rattle.table.specs.Table.{order_at, is_marked}
-use Rattle.table.proofs.Judging.{agrees, one_more}
+use Rattle.table.proofs.Judging.{one_more}
 use Rattle.table.proofs.sound.rest_agrees.Goals as goal
 
 pub loop-i-init : goal.loop-i-init

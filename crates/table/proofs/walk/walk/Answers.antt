@@ -1,7 +1,6 @@
 -- The first record that is not sound ends the walk; at the end each is sound, and the sum is of what is open of all. Assumes nothing.
-use Rattle.octets.proofs.Proving.{Bool, List, ◌∙◌, ◌≡◌, ap, arith, false, refl, sym, true, ℕ}
-use Rattle.std.specs.Prelude.{Option, None, Some}
-use Rattle.std.specs.Bool.{then_some}
+use Rattle.octets.proofs.Proving.{◌∙◌, ◌≡◌, ap, arith, refl, sym}
+use Rattle.std.specs.Prelude.{Some}
 use Rattle.octets.specs.Choice.{all_below}
 use Rattle.octets.proofs.Below.{all_true, all-false}
 use Rattle.wire.specs.declared.shares.Removed.{Removed}
