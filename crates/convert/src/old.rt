@@ -63,8 +63,7 @@ fn records_sound(old: &[u8]) -> bool
     requires { old_size_good old.now ≡ true }
     ensures { result ≡ all_below (old_used old.now) (λ i. record_sound (record_bytes old.now i)) }
 {
-    let found = walk(old, old_used(old));
-    found.ok
+    walk(old, old_used(old)).is_some()
 }
 
 pub fn old_sound(old: &[u8]) -> bool

@@ -1,4 +1,5 @@
 pub mod Opened
+pub mod Compared
 pub mod Judged
 pub mod Spelled
 pub mod Runs

@@ -1,6 +1,5 @@
 // The firms of a header: eight places of four bytes in a row, of which the first so many are listed.
 ghost use Rattle.std.specs.Prelude.{◌≡◌};
-ghost use Rattle.octets.specs.Bytes.{same};
 ghost use Rattle.header.specs.Firms.{firm_at, is_blank, meant_firm, is_listed, firm_place, firm_blocked, blocked_with, firms_shaped, rest_blank};
 
 use crate::Header;
@@ -25,7 +24,7 @@ pub fn firm_at(firms: [u8; 32], k: usize) -> [u8; 4]
 pub fn is_blank(firm: [u8; 4]) -> bool
     ensures { result ≡ is_blank firm }
 {
-    (firm[0] == b' ') & (firm[1] == b' ') & (firm[2] == b' ') & (firm[3] == b' ')
+    firm == *b"    "
 }
 
 // A blank firm means the default.
@@ -33,30 +32,20 @@ pub fn meant_firm(h: Header, firm: [u8; 4]) -> [u8; 4]
     ensures { result ≡ meant_firm h firm }
 {
     if is_blank(firm) {
-        let firms = h.firms;
-        return firm_at(firms, 0);
+        return firm_at(h.firms, 0);
     }
     firm
-}
-
-fn same_firm(a: [u8; 4], b: [u8; 4]) -> bool
-    ensures { result ≡ same a b }
-{
-    (a[0] == b[0]) & (a[1] == b[1]) & (a[2] == b[2]) & (a[3] == b[3])
 }
 
 // The first place that holds the firm; the count where none does.
 pub fn firm_place(h: Header, firm: [u8; 4]) -> usize
     ensures { result ≡ firm_place h firm }
 {
-    let firms = h.firms;
     let count = h.count as usize;
-    let mut k: usize = 0;
-    while k < count {
-        if same_firm(firm_at(firms, k), firm) {
+    for k in 0..count {
+        if firm_at(h.firms, k) == firm {
             return k;
         }
-        k += 1;
     }
     count
 }
@@ -91,12 +80,8 @@ pub fn blocked_with(h: Header, place: usize, on: bool) -> u8
 pub fn firms_shaped(firms: [u8; 32], count: usize) -> bool
     ensures { result ≡ firms_shaped firms count }
 {
-    let mut k: usize = 0;
-    while k < count {
-        let firm = firm_at(firms, k);
-        if is_shaped(&firm) {
-            k += 1;
-        } else {
+    for k in 0..count {
+        if !is_shaped(&firm_at(firms, k)) {
             return false;
         }
     }
@@ -108,10 +93,8 @@ pub(crate) fn rest_blank(firms: [u8; 32], count: usize) -> bool
     ensures { result ≡ rest_blank firms count }
 {
     let mut ok = true;
-    let mut k: usize = 0;
-    while k < MOST_FIRMS {
+    for k in 0..MOST_FIRMS {
         ok = ok & ((k < count) | octets::are_zero(&firms, FIRM_SIZE * k, FIRM_SIZE));
-        k += 1;
     }
     ok
 }

@@ -53,12 +53,9 @@ pub struct Header {
     pub firms: [u8; 32],
 }
 
-pub fn header_of(s: &[u8]) -> Header
-    requires { length s.now ≡ sum_place }
+pub fn header_of(s: &[u8; SUM_PLACE]) -> Header
     ensures { result ≡ header_of s.now }
 {
-    let threshold = Total(octets::be32(s, 24));
-    let firms = octets::bytes_at(s, 28);
     Header {
         day: octets::byte_at(s, 0),
         count: octets::byte_at(s, 1),
@@ -66,14 +63,13 @@ pub fn header_of(s: &[u8]) -> Header
         used: octets::be32(s, 4),
         last: octets::be64(s, 8),
         reference: octets::be64(s, 16),
-        threshold,
-        firms,
+        threshold: Total(octets::be32(s, 24)),
+        firms: octets::bytes32_at(s, 28),
     }
 }
 
 // The bytes are written in two runs: what the steps of a day move, then what stands from the fresh call on but for the reference.
-fn put_moments(s: &mut [u8], h: Header)
-    requires { length s.old ≡ sum_place }
+fn put_moments(s: &mut [u8; SUM_PLACE], h: Header)
     ensures { (s.new ≡ put s.old 0 (moments h)) × (length (moments h) ≡ 16) }
 {
     octets::put_byte(s, 0, h.day);
@@ -84,19 +80,16 @@ fn put_moments(s: &mut [u8], h: Header)
     octets::put_be64(s, 8, h.last);
 }
 
-fn put_standing(s: &mut [u8], h: Header)
-    requires { length s.old ≡ sum_place }
+fn put_standing(s: &mut [u8; SUM_PLACE], h: Header)
     ensures { (s.new ≡ put s.old 16 (standing h)) × (length (standing h) ≡ 44) }
 {
-    let firms = h.firms;
     octets::put_be64(s, 16, h.reference);
     octets::put_be32(s, 24, h.threshold.0);
-    octets::put_array(s, 28, firms);
+    octets::put_bytes32(s, 28, h.firms);
 }
 
 // The bytes of the header's value, over what is there.
-pub fn put_header(s: &mut [u8], h: Header)
-    requires { length s.old ≡ sum_place }
+pub fn put_header(s: &mut [u8; SUM_PLACE], h: Header)
     ensures { (s.new ≡ header_bytes h) × (length (header_bytes h) ≡ sum_place) }
 {
     put_moments(s, h);

@@ -2,6 +2,7 @@ pub mod Opened
 pub mod Bits
 pub mod Runs
 pub mod Judged
+pub mod Told
 pub mod Spelled
 pub mod Standing
 pub mod Wanting

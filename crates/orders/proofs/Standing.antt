@@ -2,9 +2,8 @@
 use Rattle.octets.proofs.Proving.{Bool, List, ◌&&◌, ◌+◌, ◌<◌, ◌∙◌, ◌≡◌, ◌≤◌, ◌⊎◌, ap, arith, drop, drop_at, eq-eqb, eqb, eqb-true, false, false≢true, inl, inr, le-leb, leb, leb-true, length, lt-ltb, ltb, ltb-true, refl, sub_self, subst, sym, true, ℕ}
 use Rattle.octets.specs.Bytes.{all_are, digits, number_of, number_from}
 use Rattle.octets.proofs.Below.{both}
-use Rattle.octets.specs.Choice.{pick, ◌⇒◌⨾◌}
+use Rattle.octets.specs.Choice.{◌⇒◌⨾◌}
 use Rattle.wire.specs.Shares.{removed}
-use Rattle.wire.specs.declared.shares.Removed.{Removed}
 use Rattle.wire.specs.Letters.{live, dead, rejected_token}
 use Rattle.wire.specs.Limits.{token_size}
 use Rattle.wire.specs.Layout.{no_bad_place}
@@ -12,7 +11,9 @@ use Rattle.wire.proofs.NoneBad.{legal_token}
 use Rattle.orders.specs.Limits.{most_shares}
 use Rattle.orders.specs.Counts.{gone, open_shares, new_counts}
 use Rattle.orders.specs.Order.{Order, record_layout, order_of, order_bytes, no_order, is_live, open_of, rejected_order}
-use Rattle.orders.specs.Sound.{Verdict, liable_good, state_sound, record_sound, unsound, state_verdict}
+use Rattle.std.specs.Prelude.{Some}
+use Rattle.std.specs.Bool.{then_some}
+use Rattle.orders.specs.Sound.{liable_good, state_sound, record_sound, state_verdict}
 use Rattle.orders.specs.Whole.{WholeOrder}
 use Rattle.orders.proofs.Judged.{record-token}
 use Rattle.orders.proofs.Spelled.{order-again}
@@ -90,26 +91,20 @@ open-most s g = by g.standing
 -- ---- what judging it finds
 
 module _ (s : List ℕ) where
-  pub verdict-rejected : (b : Bool) → (order_of s).state ≡ rejected_token → b ≡ state_sound s (order_of s) → ◌≡◌ {A = Verdict} (record { ok = b; shares = removed 0 }) (state_verdict s)
+  pub verdict-rejected : (b : Bool) → (order_of s).state ≡ rejected_token → b ≡ state_sound s (order_of s) → then_some b (removed 0) ≡ state_verdict s
   unfolding state_verdict open_of is_live
-  verdict-rejected b e sounds = rw (← sounds, e) (by b)
-    where
-      by : (x : Bool) → ◌≡◌ {A = Verdict} (record { ok = x; shares = removed 0 }) (record { ok = x; shares = pick x (removed 0) (removed 0) })
-      by true = refl
-      by false = refl
+  verdict-rejected b e sounds = rw (← sounds, e)
 
-  pub verdict-sound : ((order_of s).state ≡ rejected_token → ⊥) → state_sound s (order_of s) ≡ true → ◌≡◌ {A = Verdict} (record { ok = true; shares = open_shares (order_of s).shares }) (state_verdict s)
+  pub verdict-counted : (b : Bool) → ((order_of s).state ≡ rejected_token → ⊥) → b ≡ state_sound s (order_of s)
+      → then_some b (open_shares (order_of s).shares) ≡ state_verdict s
   unfolding state_verdict
-  verdict-sound n sounds = rw sounds (ap (λ (x : Removed). record { ok = true; shares = x }) (by (of-state s (order_of s) sounds)))
+  verdict-counted false n sounds = rw (← sounds)
+  verdict-counted true n sounds = rw (← sounds) (ap Some (by (of-state s (order_of s) (sym sounds))))
     where
       by : Live (order_of s) ⊎ (Dead (order_of s) ⊎ Rejected s (order_of s)) → open_shares (order_of s).shares ≡ open_of (order_of s)
       by (inl l) = open-of-live (order_of s) l.0
       by (inr (inl d)) = open-of-dead (order_of s) d.0 d.1
       by (inr (inr r)) = absurd (n r.0)
-
-  pub verdict-unsound : state_sound s (order_of s) ≡ false → unsound ≡ state_verdict s
-  unfolding state_verdict unsound
-  verdict-unsound fails = rw fails
 
 -- ---- orders
 

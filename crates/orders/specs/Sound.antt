@@ -1,15 +1,16 @@
 -- When a used record is sound, in its 80 bytes (Table and outbox, Sound).
-use Rattle.std.specs.Prelude.{ℕ, ◌+◌, Bool, false, ◌&&◌, ◌||◌, List, drop, leb, eqb}
-use Rattle.octets.specs.Choice.{pick, first_of◌, ◌⇒◌⨾◌}
+use Rattle.std.specs.Prelude.{ℕ, ◌+◌, Bool, false, ◌&&◌, ◌||◌, Option, List, drop, leb, eqb}
+use Rattle.std.specs.Bool.{then_some}
+use Rattle.octets.specs.Choice.{first_of◌, ◌⇒◌⨾◌}
 use Rattle.octets.specs.Bytes.{all_are}
 use Rattle.wire.specs.Letters.{live, dead, rejected_token}
 use Rattle.wire.specs.Limits.{token_size}
 use Rattle.wire.specs.Layout.{no_bad_place}
-use Rattle.wire.specs.Shares.{removed, ◌is_below◌, ◌equals◌}
+use Rattle.wire.specs.Shares.{◌is_below◌, ◌equals◌}
+use Rattle.wire.specs.declared.shares.Removed.{Removed}
 use Rattle.orders.specs.Limits.{most_shares}
 use Rattle.orders.specs.Counts.{Counts, gone}
 use Rattle.orders.specs.Order.{Order, record_layout, order_of, open_of}
-pub use Rattle.orders.specs.declared.sound.Verdict.{Verdict}
 
 unfoldable pub liable_good : Counts → Bool
 liable_good s = leb s.liable.0 most_shares
@@ -27,20 +28,15 @@ state_sound s o =
 unfoldable pub record_sound : List ℕ → Bool
 record_sound s = no_bad_place record_layout s && state_sound s (order_of s)
 
--- ---- what judging a record finds: whether it is sound, and what is open of it if it is (Ask 6)
+-- ---- what judging a record finds: what is open of it if it is sound, and none if it is not (Ask 6)
 
 -- L or D beside the counts
 unfoldable pub counted_sound : ℕ → Counts → Bool
 counted_sound state s =
     eqb state live && (gone s is_below s.liable) && liable_good s || eqb state dead && (gone s equals s.liable) && liable_good s
 
-unfoldable pub unsound : Verdict
-unsound = record { ok = false; shares = removed 0 }
+unfoldable pub state_verdict : List ℕ → Option Removed
+state_verdict s = then_some (state_sound s (order_of s)) (open_of (order_of s))
 
-unfoldable pub state_verdict : List ℕ → Verdict
-state_verdict s =
-    let ok = state_sound s (order_of s) in
-    record { ok = ok; shares = pick ok (open_of (order_of s)) (removed 0) }
-
-unfoldable pub verdict_on : List ℕ → Verdict
-verdict_on s = record { ok = record_sound s; shares = pick (record_sound s) (open_of (order_of s)) (removed 0) }
+unfoldable pub verdict_on : List ℕ → Option Removed
+verdict_on s = then_some (record_sound s) (open_of (order_of s))

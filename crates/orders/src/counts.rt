@@ -36,12 +36,7 @@ pub fn gone_equals(s: Counts, t: Total) -> bool
 pub fn less_gone(t: Total, s: Counts) -> Removed
     ensures { result ≡ t less gone s }
 {
-    let gone = gone_wide(s);
-    let total = t.0 as u64;
-    if gone < total {
-        return Removed((total - gone) as u32);
-    }
-    Removed(0)
+    Removed((t.0 as u64).saturating_sub(gone_wide(s)) as u32)
 }
 
 pub fn open_shares(s: Counts) -> Removed
@@ -53,34 +48,22 @@ pub fn open_shares(s: Counts) -> Removed
 pub fn with_liable(s: Counts, liable: Total) -> Counts
     ensures { result ≡ with_liable s liable }
 {
-    let executed = s.executed;
-    let matched = s.matched;
-    Counts {
-        liable,
-        executed,
-        matched,
-    }
+    Counts { liable, ..s }
 }
 
 pub fn cut(s: Counts, by: Removed) -> Counts
     ensures { result ≡ cut s by }
 {
-    let liable = s.liable;
-    with_liable(s, liable.cut_by(by))
+    with_liable(s, s.liable.cut_by(by))
 }
 
 pub fn executing(s: Counts, by: Removed) -> Counts
     requires { s.executed.0 + by.0 ≤ s.liable.0 }
     ensures { result ≡ executing s by }
 {
-    let liable = s.liable;
-    let matched = s.matched;
-    let before = s.executed;
-    let executed = before.grown_by(by);
     Counts {
-        liable,
-        executed,
-        matched,
+        executed: s.executed.grown_by(by),
+        ..s
     }
 }
 
@@ -88,14 +71,9 @@ pub fn self_matching(s: Counts, by: Removed) -> Counts
     requires { s.matched.0 + by.0 ≤ s.liable.0 }
     ensures { result ≡ self_matching s by }
 {
-    let liable = s.liable;
-    let executed = s.executed;
-    let before = s.matched;
-    let matched = before.grown_by(by);
     Counts {
-        liable,
-        executed,
-        matched,
+        matched: s.matched.grown_by(by),
+        ..s
     }
 }
 

@@ -49,43 +49,30 @@ pub struct Order {
 pub fn no_order() -> Order
     ensures { result ≡ no_order }
 {
-    let token = [0u8; 14];
-    let shares = new_counts(Total(0));
-    let details = no_details();
     Order {
         state: 0,
-        token,
+        token: [0; 14],
         side: 0,
-        shares,
+        shares: new_counts(Total(0)),
         flags: 0,
-        details,
-    }
-}
-
-fn no_details() -> Details
-    ensures { result ≡ no_order.details }
-{
-    let kept = Kept {
-        stock: [0u8; 8],
-        firm: [0u8; 4],
-        capacity: 0,
-        cross: 0,
-    };
-    let minimum = Removed(0);
-    let terms = Terms {
-        price: 0,
-        time: 0,
-        display: 0,
-        sweep: 0,
-        minimum,
-    };
-    let previous = [0u8; 14];
-    Details {
-        kept,
-        terms,
-        reference: 0,
-        previous,
-        spare: 0,
+        details: Details {
+            kept: Kept {
+                stock: [0; 8],
+                firm: [0; 4],
+                capacity: 0,
+                cross: 0,
+            },
+            terms: Terms {
+                price: 0,
+                time: 0,
+                display: 0,
+                sweep: 0,
+                minimum: Removed(0),
+            },
+            reference: 0,
+            previous: [0; 14],
+            spare: 0,
+        },
     }
 }
 
@@ -93,15 +80,10 @@ fn no_details() -> Details
 pub fn rejected_order(token: [u8; 14]) -> Order
     ensures { result ≡ rejected_order token }
 {
-    let shares = new_counts(Total(0));
-    let details = no_details();
     Order {
         state: b'R',
         token,
-        side: 0,
-        shares,
-        flags: 0,
-        details,
+        ..no_order()
     }
 }
 
@@ -127,17 +109,7 @@ pub fn is(o: Order, flag: Flag) -> bool
 fn with_flags(o: Order, flags: u8) -> Order
     ensures { result ≡ with_flags o flags }
 {
-    let token = o.token;
-    let shares = o.shares;
-    let details = o.details;
-    Order {
-        state: o.state,
-        token,
-        side: o.side,
-        shares,
-        flags,
-        details,
-    }
+    Order { flags, ..o }
 }
 
 pub fn marked(o: Order, flag: Flag) -> Order
@@ -155,59 +127,30 @@ pub fn cleared(o: Order, flag: Flag) -> Order
 pub fn with_side(o: Order, side: u8) -> Order
     ensures { result ≡ with_side o side }
 {
-    let token = o.token;
-    let shares = o.shares;
-    let details = o.details;
-    Order {
-        state: o.state,
-        token,
-        side,
-        shares,
-        flags: o.flags,
-        details,
-    }
+    Order { side, ..o }
 }
 
 pub fn with_details(o: Order, details: Details) -> Order
     ensures { result ≡ with_details o details }
 {
-    let token = o.token;
-    let shares = o.shares;
-    Order {
-        state: o.state,
-        token,
-        side: o.side,
-        shares,
-        flags: o.flags,
-        details,
-    }
+    Order { details, ..o }
 }
 
 // The order with these counts. An order whose open reaches 0 is dead: every rule that changes counts does it here.
 pub fn dead_if_spent(o: Order, shares: Counts) -> Order
     ensures { result ≡ dead_if_spent o shares }
 {
-    let token = o.token;
-    let details = o.details;
     let state = if open_shares(shares).0 == 0 {
         b'D'
     } else {
         o.state
     };
-    Order {
-        state,
-        token,
-        side: o.side,
-        shares,
-        flags: o.flags,
-        details,
-    }
+    Order { state, shares, ..o }
 }
 
 // All that is open is cut off. What is gone of the order is all that it is liable for then, so it is dead.
 pub fn killed(o: Order) -> Order
     ensures { result ≡ killed o }
 {
-    let shares = o.shares;
-    dead_if_spent(o, cut(shares, open_shares(shares)))
+    dead_if_spent(o, cut(o.shares, open_shares(o.shares)))
 }

@@ -13,36 +13,28 @@ use wire::shares::{Removed, Total};
 // How many bytes a record has.
 pub const RECORD_SIZE: usize = 80;
 
-pub(crate) fn counts_of(s: &[u8]) -> Counts
-    requires { length s.now ≡ record_size }
+pub(crate) fn counts_of(s: &[u8; RECORD_SIZE]) -> Counts
     ensures { result ≡ (order_of s.now).shares }
 {
-    let liable = Total(be32(s, 16));
-    let executed = Total(be32(s, 20));
-    let matched = Total(be32(s, 24));
     Counts {
-        liable,
-        executed,
-        matched,
+        liable: Total(be32(s, 16)),
+        executed: Total(be32(s, 20)),
+        matched: Total(be32(s, 24)),
     }
 }
 
-fn kept_of(s: &[u8]) -> Kept
-    requires { length s.now ≡ record_size }
+fn kept_of(s: &[u8; RECORD_SIZE]) -> Kept
     ensures { result ≡ (order_of s.now).details.kept }
 {
-    let stock = bytes_at(s, 28);
-    let firm = bytes_at(s, 44);
     Kept {
-        stock,
-        firm,
+        stock: bytes8_at(s, 28),
+        firm: bytes4_at(s, 44),
         capacity: byte_at(s, 49),
         cross: byte_at(s, 55),
     }
 }
 
-fn terms_of(s: &[u8]) -> Terms
-    requires { length s.now ≡ record_size }
+fn terms_of(s: &[u8; RECORD_SIZE]) -> Terms
     ensures { result ≡ (order_of s.now).details.terms }
 {
     Terms {
@@ -54,68 +46,53 @@ fn terms_of(s: &[u8]) -> Terms
     }
 }
 
-fn details_of(s: &[u8]) -> Details
-    requires { length s.now ≡ record_size }
+fn details_of(s: &[u8; RECORD_SIZE]) -> Details
     ensures { result ≡ (order_of s.now).details }
 {
-    let kept = kept_of(s);
-    let terms = terms_of(s);
-    let previous = bytes_at(s, 65);
     Details {
-        kept,
-        terms,
+        kept: kept_of(s),
+        terms: terms_of(s),
         reference: be64(s, 56),
-        previous,
+        previous: bytes14_at(s, 65),
         spare: byte_at(s, 79),
     }
 }
 
-pub fn order_of(s: &[u8]) -> Order
-    requires { length s.now ≡ record_size }
+pub fn order_of(s: &[u8; RECORD_SIZE]) -> Order
     ensures { result ≡ order_of s.now }
 {
-    let token = bytes_at(s, 1);
-    let shares = counts_of(s);
-    let details = details_of(s);
     Order {
         state: byte_at(s, 0),
-        token,
+        token: bytes14_at(s, 1),
         side: byte_at(s, 15),
-        shares,
+        shares: counts_of(s),
         flags: byte_at(s, 64),
-        details,
+        details: details_of(s),
     }
 }
 
 // The bytes are written in four runs, each from where the last one ended.
-fn put_opening(s: &mut [u8], o: Order)
-    requires { length s.old ≡ record_size }
+fn put_opening(s: &mut [u8; RECORD_SIZE], o: Order)
     ensures { (s.new ≡ put s.old 0 (opening o)) × (length (opening o) ≡ 28) }
 {
-    let token = o.token;
-    let shares = o.shares;
     put_byte(s, 0, o.state);
-    put_array(s, 1, token);
+    put_bytes14(s, 1, o.token);
     put_byte(s, 15, o.side);
-    put_be32(s, 16, shares.liable.0);
-    put_be32(s, 20, shares.executed.0);
-    put_be32(s, 24, shares.matched.0);
+    put_be32(s, 16, o.shares.liable.0);
+    put_be32(s, 20, o.shares.executed.0);
+    put_be32(s, 24, o.shares.matched.0);
 }
 
-fn put_traded(s: &mut [u8], details: Details)
-    requires { length s.old ≡ record_size }
+fn put_traded(s: &mut [u8; RECORD_SIZE], details: Details)
     ensures { (s.new ≡ put s.old 28 (traded details)) × (length (traded details) ≡ 20) }
 {
-    let stock = details.kept.stock;
-    let firm = details.kept.firm;
-    put_array(s, 28, stock);
+    put_bytes8(s, 28, details.kept.stock);
     put_be32(s, 36, details.terms.price);
     put_be32(s, 40, details.terms.time);
-    put_array(s, 44, firm);
+    put_bytes4(s, 44, details.kept.firm);
 }
 
-fn put_letters(s: &mut [u8], details: Details)
-    requires { length s.old ≡ record_size }
+fn put_letters(s: &mut [u8; RECORD_SIZE], details: Details)
     ensures { (s.new ≡ put s.old 48 (letters details)) × (length (letters details) ≡ 8) }
 {
     put_byte(s, 48, details.terms.display);
@@ -125,25 +102,24 @@ fn put_letters(s: &mut [u8], details: Details)
     put_byte(s, 55, details.kept.cross);
 }
 
-fn put_ending(s: &mut [u8], flags: u8, details: Details)
-    requires { length s.old ≡ record_size }
+fn put_ending(s: &mut [u8; RECORD_SIZE], flags: u8, details: Details)
     ensures { (s.new ≡ put s.old 56 (ending flags details)) × (length (ending flags details) ≡ 24) }
 {
-    let previous = details.previous;
     put_be64(s, 56, details.reference);
     put_byte(s, 64, flags);
-    put_array(s, 65, previous);
+    put_bytes14(s, 65, details.previous);
     put_byte(s, 79, details.spare);
 }
 
-// The order's 80 bytes, over what is there.
+// The order's 80 bytes, over what is there. They come as a slice: of a part of the table that is lent as an array the check knows nothing more once
+// it is back.
 pub fn put_order(s: &mut [u8], o: Order)
     requires { length s.old ≡ record_size }
     ensures { (s.new ≡ order_bytes o) × (length (order_bytes o) ≡ record_size) }
 {
-    let details = o.details;
+    let s = s.as_mut_array().unwrap();
     put_opening(s, o);
-    put_traded(s, details);
-    put_letters(s, details);
-    put_ending(s, o.flags, details);
+    put_traded(s, o.details);
+    put_letters(s, o.details);
+    put_ending(s, o.flags, o.details);
 }

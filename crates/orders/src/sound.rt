@@ -1,11 +1,10 @@
 // When the 80 bytes of a used record are sound. A table is judged record by record at every step, so the tests of a token and of a state are
 // gathered without a branch. Between the two stands one, which in a sound table always goes the same way: measured, it is faster.
-ghost use Rattle.std.specs.Prelude.{◌≡◌, length};
+ghost use Rattle.std.specs.Prelude.{◌≡◌};
 ghost use Rattle.wire.specs.Layout.{no_bad_place};
-ghost use Rattle.orders.specs.Limits.{record_size};
 ghost use Rattle.orders.specs.Counts.{Counts};
 ghost use Rattle.orders.specs.Order.{record_layout};
-ghost use Rattle.orders.specs.Sound.{liable_good, counted_sound, unsound, state_verdict, verdict_on};
+ghost use Rattle.orders.specs.Sound.{liable_good, counted_sound, state_verdict, verdict_on};
 
 use crate::counts::{Counts, gone_equals, gone_is_below, open_shares};
 use crate::record::{RECORD_SIZE, counts_of};
@@ -16,26 +15,16 @@ use wire::text::is_token_byte;
 // No order is liable for more.
 pub const MOST_SHARES: u32 = 999_999;
 
-// What judging a record finds: whether it is sound, and what is open of it if it is.
-#[derive(Clone, Copy)]
-pub struct Verdict {
-    pub ok: bool,
-    pub shares: Removed,
-}
-
 // The token stands behind the state's byte; what follows it is 65 bytes.
 const TOKEN_END: usize = 15;
 
 // A record's token is legal. The loop takes 32 bytes, of which those outside the token are free: in steps of 16 it is much the faster.
-fn token_legal(r: &[u8]) -> bool
-    requires { length r.now ≡ record_size }
+fn token_legal(r: &[u8; RECORD_SIZE]) -> bool
     ensures { result ≡ no_bad_place record_layout r.now }
 {
     let mut ok = true;
-    let mut k: usize = 0;
-    while k < 32 {
+    for k in 0..32 {
         ok = ok & ((k == 0) | (TOKEN_END <= k) | is_token_byte(r[k]));
-        k += 1;
     }
     ok
 }
@@ -54,43 +43,24 @@ fn counted_sound(state: u8, s: Counts) -> bool
         | ((state == b'D') & gone_equals(s, s.liable) & liable_good(s))
 }
 
-fn unsound() -> Verdict
-    ensures { result ≡ unsound }
-{
-    Verdict {
-        ok: false,
-        shares: Removed(0),
-    }
-}
-
-fn state_verdict(r: &[u8]) -> Verdict
-    requires { length r.now ≡ record_size }
+// What is open of a record whose token is legal; none where it is not sound.
+fn state_verdict(r: &[u8; RECORD_SIZE]) -> Option<Removed>
     ensures { result ≡ state_verdict r.now }
 {
     let state = byte_at(r, 0);
     if state == b'R' {
-        return Verdict {
-            ok: are_zero(r, TOKEN_END, RECORD_SIZE - TOKEN_END),
-            shares: Removed(0),
-        };
+        return are_zero(r, TOKEN_END, RECORD_SIZE - TOKEN_END).then_some(Removed(0));
     }
     let s = counts_of(r);
-    if counted_sound(state, s) {
-        return Verdict {
-            ok: true,
-            shares: open_shares(s),
-        };
-    }
-    unsound()
+    counted_sound(state, s).then_some(open_shares(s))
 }
 
-// A record's counts are read once, for both.
-pub fn judge_record(r: &[u8]) -> Verdict
-    requires { length r.now ≡ record_size }
+// What is open of a record; none where it is not sound. Its counts are read once, for both.
+pub fn judge_record(r: &[u8; RECORD_SIZE]) -> Option<Removed>
     ensures { result ≡ verdict_on r.now }
 {
     if token_legal(r) {
         return state_verdict(r);
     }
-    unsound()
+    None
 }

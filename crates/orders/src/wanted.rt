@@ -1,12 +1,12 @@
 // Which live orders an entry is about that names no token. A table is searched for the first of them, so the test is made on a record's bytes.
-ghost use Rattle.std.specs.Prelude.{◌≡◌, ◌&&◌, length};
+ghost use Rattle.std.specs.Prelude.{◌≡◌, ◌&&◌};
 ghost use Rattle.octets.specs.Bytes.{same};
-ghost use Rattle.orders.specs.Limits.{record_size};
 ghost use Rattle.orders.specs.Order.{order_of};
 ghost use Rattle.orders.specs.Wanted.{meets_by, is_wanted};
 
 use crate::flags::{Flag, has_flag};
 use crate::live::lives;
+use crate::record::RECORD_SIZE;
 use octets::{byte_at, same_at};
 
 // What of an order is looked at.
@@ -24,51 +24,37 @@ pub struct Wanted {
     pub symbol: [u8; 8],
 }
 
-fn has_firm(r: &[u8], firm: [u8; 4]) -> bool
-    requires { length r.now ≡ record_size }
+fn has_firm(r: &[u8; RECORD_SIZE], firm: [u8; 4]) -> bool
     ensures { result ≡ same (order_of r.now).details.kept.firm firm }
 {
     same_at(r, 44, &firm)
 }
 
-fn has_stock(r: &[u8], symbol: [u8; 8]) -> bool
-    requires { length r.now ≡ record_size }
+fn has_stock(r: &[u8; RECORD_SIZE], symbol: [u8; 8]) -> bool
     ensures { result ≡ same (order_of r.now).details.kept.stock symbol }
 {
     same_at(r, 28, &symbol)
 }
 
 // Most orders that are passed over are another firm's, so that is asked first.
-fn has_both(r: &[u8], firm: [u8; 4], symbol: [u8; 8]) -> bool
-    requires { length r.now ≡ record_size }
+fn has_both(r: &[u8; RECORD_SIZE], firm: [u8; 4], symbol: [u8; 8]) -> bool
     ensures { result ≡ (same (order_of r.now).details.kept.firm firm && same (order_of r.now).details.kept.stock symbol) }
 {
-    if has_firm(r, firm) {
-        return has_stock(r, symbol);
-    }
-    false
+    has_firm(r, firm) && has_stock(r, symbol)
 }
 
-fn meets(r: &[u8], wanted: Wanted) -> bool
-    requires { length r.now ≡ record_size }
+fn meets(r: &[u8; RECORD_SIZE], wanted: Wanted) -> bool
     ensures { result ≡ meets_by wanted.by wanted (order_of r.now) }
 {
-    let by = wanted.by;
-    let firm = wanted.firm;
-    let symbol = wanted.symbol;
-    match by {
-        By::Firm => has_firm(r, firm),
-        By::Stock => has_both(r, firm, symbol),
+    match wanted.by {
+        By::Firm => has_firm(r, wanted.firm),
+        By::Stock => has_both(r, wanted.firm, wanted.symbol),
     }
 }
 
 // Most records of a long day are dead, so that is asked first.
-pub fn is_wanted(r: &[u8], wanted: Wanted) -> bool
-    requires { length r.now ≡ record_size }
+pub fn is_wanted(r: &[u8; RECORD_SIZE], wanted: Wanted) -> bool
     ensures { result ≡ is_wanted wanted (order_of r.now) }
 {
-    if lives(r) {
-        return !has_flag(byte_at(r, 64), Flag::Late) & meets(r, wanted);
-    }
-    false
+    lives(r) && (!has_flag(byte_at(r, 64), Flag::Late) & meets(r, wanted))
 }

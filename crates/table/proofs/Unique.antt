@@ -16,7 +16,7 @@ places-unique = (λ κs a. settled) also (λ κs a. settled) also (λ κs a. set
 
 -- of a part that is handed back, its bytes
 pub record-unique : (κs : Lfts 1) (a : _) → Settles {X = List ℕ} (table.places.record_at.Reads.Post κs a) (λ z e. z.now)
-record-unique κs a z z' e e' p p' = one-result p.0 p'.0
+record-unique κs a z z' e e' p p' = one-result p p'
 
 pub search-unique : Settled table.search.find_wanted.Reads.Post
 search-unique κs a = settled

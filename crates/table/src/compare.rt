@@ -27,10 +27,6 @@ pub(crate) fn same_backwards(a: &[u8], b: &[u8]) -> bool
     requires { (length a.now ≡ token_size) × (length b.now ≡ token_size) }
     ensures { result ≡ same_backwards token_size a.now b.now }
 {
-    if eight_at(a, 6) == eight_at(b, 6) {
-        if four_at(a, 2) == four_at(b, 2) {
-            return number_at(a, 0, 2) == number_at(b, 0, 2);
-        }
-    }
-    false
+    eight_at(a, 6) == eight_at(b, 6)
+        && (four_at(a, 2) == four_at(b, 2) && number_at(a, 0, 2) == number_at(b, 0, 2))
 }

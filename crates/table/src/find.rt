@@ -15,7 +15,8 @@ fn has_token(table: &[u8], token: [u8; 14], i: usize) -> bool
     same_backwards(&r[1..15], &token)
 }
 
-// Two records are looked at in a turn: with one, the jump back takes as long as the look.
+// Two records are looked at in a turn, where a `for` looks at one: then the jump back takes as long as the look. Finding is to take at most what the
+// search by hand in words takes, which looks at one (docs/BENCHMARKS.md).
 fn first(table: &[u8], token: [u8; 14], n: usize) -> usize
     requires { n ≤ records_in table.now }
     ensures { result ≡ first_below n (has_token table.now token) }

@@ -10,16 +10,6 @@ use crate::sound::size_good;
 use answers::{Answer, Refusal, is_done, first_of};
 use header::settings::{Settings, fresh_header, settings_good};
 
-fn clear(table: &mut [u8])
-    ensures { table.new ≡ zeros (length table.old) }
-{
-    let mut i: usize = 0;
-    while i < table.len() {
-        table[i] = 0;
-        i += 1;
-    }
-}
-
 // 10 for a bad length, then 3 for bad settings.
 fn fresh_answer(table: &[u8], settings: Settings) -> Answer
     ensures { result ≡ fresh_answer table.now settings }
@@ -35,7 +25,7 @@ fn fresh_answer(table: &[u8], settings: Settings) -> Answer
 fn begin(table: &mut [u8], settings: Settings)
     ensures { table.new ≡ store_header (zeros (length table.old)) (fresh_header settings) }
 {
-    clear(table);
+    table.fill(0);
     store_header(table, fresh_header(settings));
 }
 

@@ -14,10 +14,7 @@ fn wanted_at(table: &[u8], wanted: Wanted, n: usize, i: usize) -> bool
     requires { n ≤ records_in table.now }
     ensures { result ≡ (ltb i n && is_wanted wanted (order_at table.now i)) }
 {
-    if i < n {
-        return is_wanted(record_bytes(table, i), wanted);
-    }
-    false
+    i < n && is_wanted(record_bytes(table, i), wanted)
 }
 
 // The first of the eight records whose bits are in byte `at`; the number behind them where there is none. A bit that has been looked at is cleared,
@@ -43,14 +40,11 @@ pub fn find_wanted(table: &[u8], wanted: Wanted) -> usize
     ensures { result ≡ first_marked table.now (is_wanted wanted) }
 {
     let n = used(table);
-    let end = bit_bytes(table).len();
-    let mut at: usize = 0;
-    while at < end {
+    for at in 0..bit_bytes(table).len() {
         let i = among_eight(table, wanted, n, at);
         if i < 8 * at + 8 {
             return i;
         }
-        at += 1;
     }
     n
 }

@@ -12,8 +12,8 @@ use crate::places::{bit_bytes, head_bytes, record_bytes, records_in, used};
 use crate::store::open_sum;
 use crate::walk::walk;
 use bitrow::{bit_at, clear_from};
+use header::HEADER_SIZE;
 use header::sound::header_sound;
-use header::{HEADER_SIZE, SUM_PLACE};
 use octets::bits::with_bit;
 use orders::live::lives;
 use orders::record::RECORD_SIZE;
@@ -35,10 +35,7 @@ pub fn size_good(table: &[u8]) -> bool
     ensures { result ≡ size_good table.now }
 {
     let n = records_in(table);
-    if (FEWEST_RECORDS <= n) & (n <= MOST_RECORDS) {
-        return table.len() == table_size(n);
-    }
-    false
+    (FEWEST_RECORDS <= n) & (n <= MOST_RECORDS) && table.len() == table_size(n)
 }
 
 // The byte of bits that eight records should have. The loop is of a fixed length, and the compiler unrolls it.
@@ -47,10 +44,8 @@ fn eight_live(table: &[u8], at: usize) -> u8
     ensures { result ≡ packed 8 (λ j. is_live (order_at table.now (8 * at + j))) }
 {
     let mut byte: u8 = 0;
-    let mut j: usize = 0;
-    while j < 8 {
+    for j in 0..8 {
         byte = with_bit(byte, j, lives(record_bytes(table, 8 * at + j)));
-        j += 1;
     }
     byte
 }
@@ -62,10 +57,8 @@ fn bytes_agree(table: &[u8], m: usize) -> bool
 {
     let bits = bit_bytes(table);
     let mut ok = true;
-    let mut at: usize = 0;
-    while at < m {
+    for at in 0..m {
         ok = ok & (bits[at] == eight_live(table, at));
-        at += 1;
     }
     ok
 }
@@ -77,10 +70,8 @@ fn rest_agrees(table: &[u8], from: usize, n: usize) -> bool
 {
     let bits = bit_bytes(table);
     let mut ok = true;
-    let mut i: usize = from;
-    while i < n {
+    for i in from..n {
         ok = ok & (bit_at(bits, i) == lives(record_bytes(table, i)));
-        i += 1;
     }
     ok
 }
@@ -99,23 +90,14 @@ fn records_sound(table: &[u8]) -> bool
     ensures { result ≡ (all_below (used_in table.now) (λ i. record_sound (record_bytes table.now i)) && (bits_good table.now && sum_good table.now)) }
 {
     let n = used(table);
-    let found = walk(table, n);
-    if found.ok {
-        return bits_agree(table, n)
-            & clear_from(bit_bytes(table), n)
-            & (open_sum(table) as u64 == found.sum);
-    }
-    false
+    let Some(sum) = walk(table, n) else {
+        return false;
+    };
+    bits_agree(table, n) & clear_from(bit_bytes(table), n) & (open_sum(table) as u64 == sum)
 }
 
 pub fn sound(table: &[u8]) -> bool
     ensures { result ≡ sound table.now }
 {
-    let blank = [0u8; SUM_PLACE];
-    if size_good(table) {
-        if header_sound(head_bytes(table, &blank), records_in(table)) {
-            return records_sound(table);
-        }
-    }
-    false
+    size_good(table) && (header_sound(head_bytes(table), records_in(table)) && records_sound(table))
 }

@@ -22,10 +22,7 @@ pub struct Tally {
 fn form_good(table: &[u8]) -> bool
     ensures { result ≡ form_good table.now }
 {
-    if size_good(table) {
-        return byte_at(table, 2) == TABLE_FORM;
-    }
-    false
+    size_good(table) && byte_at(table, 2) == TABLE_FORM
 }
 
 pub fn status(table: &[u8]) -> Tally

@@ -1,6 +1,6 @@
 // Storing a record, the only way that one is written: the bit that says whether it is live and the sum of open shares are kept here, and nowhere
 // else.
-ghost use Rattle.std.specs.Prelude.{◌≡◌, ◌-◌, ◌≤◌, length};
+ghost use Rattle.std.specs.Prelude.{◌≡◌, ◌≤◌, length};
 ghost use Rattle.octets.specs.Bytes.{put};
 ghost use Rattle.header.specs.Limits.{header_size};
 ghost use Rattle.orders.specs.Order.{order_bytes};
@@ -47,18 +47,10 @@ fn mark(table: &mut [u8], i: usize, live: bool)
     ensures { (table.new ≡ with_mark table.old i live) × (header_size ≤ length table.new) }
 {
     let place = HEADER_SIZE + RECORD_SIZE * records_in(table);
-    let end = table.len();
-    set_bit(&mut table[place..end], i, live);
+    set_bit(&mut table[place..], i, live);
 }
 
-// In a damaged table less may be said to be open of all orders than of one.
-fn less(all: u64, one: u64) -> u64
-    ensures { result ≡ all - one }
-{
-    if one < all { all - one } else { 0 }
-}
-
-// What is kept of a record is kept of the bytes that stand there.
+// What is kept of a record is kept of the bytes that stand there. In a damaged table less may be said to be open of all orders than of one.
 fn count(table: &mut [u8], i: usize, before: Removed)
     requires { HasRecord table.old i }
     ensures { table.new ≡ counted table.old i before.0 }
@@ -67,7 +59,7 @@ fn count(table: &mut [u8], i: usize, before: Removed)
     let live = lives(r);
     let sum = open_sum(table) as u64 + open_in(r).0 as u64;
     mark(table, i, live);
-    put_number(table, SUM_PLACE, 4, less(sum, before.0 as u64));
+    put_number(table, SUM_PLACE, 4, sum.saturating_sub(before.0 as u64));
 }
 
 fn store_record(table: &mut [u8], i: usize, o: Order)

@@ -9,27 +9,15 @@ ghost use Rattle.table.specs.Walk.{found_in};
 use crate::places::record_at;
 use orders::sound::judge_record;
 
-#[derive(Clone, Copy)]
-pub struct Found {
-    pub ok: bool,
-    // how much is open, if all are sound
-    pub sum: u64,
-}
-
-pub fn walk(table: &[u8], n: usize) -> Found
+// How much is open of the first n records; none where one of them is not sound.
+pub fn walk(table: &[u8], n: usize) -> Option<u64>
     requires { (header_size + record_size * n ≤ length table.now) × (n ≤ most_records) }
     ensures { result ≡ found_in table.now n }
 {
     let mut sum: u64 = 0;
-    let mut i: usize = 0;
-    while i < n {
-        let found = judge_record(record_at(table, i));
-        if found.ok {
-            sum += found.shares.0 as u64;
-            i += 1;
-        } else {
-            return Found { ok: false, sum: 0 };
-        }
+    for i in 0..n {
+        let open = judge_record(record_at(table, i))?;
+        sum += open.0 as u64;
     }
-    Found { ok: true, sum }
+    Some(sum)
 }

@@ -1,5 +1,5 @@
 -- The loop's invariant: the first i orders are stored, and the table is as long as it was. The measure is what is left of n. Assumes nothing.
-use Rattle.octets.proofs.Proving.{List, ◌+◌, ◌-◌, ◌∙◌, ◌≡◌, add-one, ap, arith, refl, sym, ℕ}
+use Rattle.octets.proofs.Proving.{List, ◌+◌, ◌∙◌, ◌≡◌, add-one, ap, arith, refl, sym, ℕ}
 use Rattle.table.specs.Table.{order_at, store_order}
 use Rattle.orders.specs.Order.{order_of}
 use Rattle.orders.specs.declared.order.Order.{Order}
@@ -32,5 +32,5 @@ loop-i-preserved c =
       omega arith,
       omega arith,
       order-next a.old.now a.table.now _ l.i _ (stored.store_order.ensures ∙ ap (λ (t : List ℕ). store_order t l.i read.order_of.result) l.invariant.2)
-          (read.order_of.ensures ∙ ap order_of read.record_at.ensures.0),
+          (read.order_of.ensures ∙ ap order_of read.record_at.ensures),
     )

@@ -21,6 +21,6 @@ returns c =
     let h = start.args.h in
     let put = puts-at runs (moments h & standing h & tt) start.args.s.now
     (p1.put_moments.ensures then p2.put_standing.ensures then ends)
-    0 60 refl (omega (arith, start.requires)) in
+    0 60 refl (omega arith) in
     let all = header-runs h in
-    (put.0 ∙ put_whole start.args.s.now _ (omega (arith, put.1, start.requires)) ∙ all, omega (arith, ap length all, put.1))
+    (put.0 ∙ put_whole start.args.s.now _ (omega (arith, put.1)) ∙ all, omega (arith, ap length all, put.1))

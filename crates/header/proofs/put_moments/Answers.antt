@@ -18,5 +18,5 @@ returns c =
     let start = p1 in
     let put = puts-at moment_fields (moment_values start.args.h) start.args.s.now
     (p1.put_byte.ensures then p2.put_byte-2.ensures then p3.put_byte-3.ensures then p4.put_byte-4.ensures then p5.put_be32.ensures then p6.put_be64.ensures then ends)
-    0 16 refl (omega (arith, start.requires)) in
+    0 16 refl (omega arith) in
     (put.0, omega (arith, put.1))

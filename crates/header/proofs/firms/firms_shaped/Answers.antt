@@ -1,5 +1,5 @@
--- The loop's invariant: each firm before place k is shaped. The measure is what is left of the count.
-use Rattle.octets.proofs.Proving.{◌-◌, ◌∙◌, ◌≡◌, ap, arith, refl, sym, true}
+-- The first firm that is not shaped settles it; at the end each is. Assumes nothing.
+use Rattle.octets.proofs.Proving.{◌∙◌, ◌≡◌, ap, arith, refl, sym}
 use Rattle.octets.specs.Choice.{all_below}
 use Rattle.octets.proofs.Below.{all_true, all-false}
 use Rattle.wire.specs.Text.{shaped}
@@ -8,19 +8,19 @@ use Rattle.header.proofs.firms.firms_shaped.Goals as goal
 
 pub loop-k-init : goal.loop-k-init
 unfolding all_below
-loop-k-init c = (omega arith, refl)
+loop-k-init c = refl
 
 pub loop-k-preserved : goal.loop-k-preserved
 loop-k-preserved c =
     let l = c.loop-k in
-    let e = sym (ap shaped c.firm_at-firm.ensures) ∙ sym c.is_shaped.ensures ∙ c.if-is_shaped.true in
-    (omega arith, all_true (λ j. shaped (firm_at c.args.firms j)) l.k l.invariant.1 e)
+    let e = sym (ap shaped c.firm_at.ensures) ∙ sym c.is_shaped.ensures ∙ c.if-not-is_shaped.false in
+    all_true (λ j. shaped (firm_at c.args.firms j)) l.k l.invariant e
 
-pub returns-else-is_shaped : goal.returns-else-is_shaped
+pub returns-then-not-is_shaped : goal.returns-then-not-is_shaped
 unfolding firms_shaped
-returns-else-is_shaped c =
+returns-then-not-is_shaped c =
     let l = c.loop-k in
-    let e = sym (ap shaped c.firm_at-firm.ensures) ∙ sym c.is_shaped.ensures ∙ c.if-is_shaped.false in
+    let e = sym (ap shaped c.firm_at.ensures) ∙ sym c.is_shaped.ensures ∙ c.if-not-is_shaped.true in
     sym (all-false (λ j. shaped (firm_at c.args.firms j)) c.args.count l.k (omega arith) e)
 
 pub returns : goal.returns
@@ -28,4 +28,4 @@ unfolding firms_shaped
 returns c =
     let l = c.loop-k in
     let e : l.k ≡ c.args.count = omega arith in
-    sym (rw (← e) l.invariant.1)
+    sym (rw (← e) l.invariant)

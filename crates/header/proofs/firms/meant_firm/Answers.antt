@@ -1,7 +1,6 @@
 -- A blank firm is the first of the list, any other is itself.
 use Rattle.octets.proofs.Proving.{◌∙◌, ◌≡◌, false, sym, true}
 use Rattle.header.specs.Firms.{is_blank, meant_firm}
-use Rattle.header.specs.Firms.{meant_firm}
 use Rattle.header.proofs.firms.meant_firm.Goals as goal
 
 pub returns-then-is_blank : goal.returns-then-is_blank

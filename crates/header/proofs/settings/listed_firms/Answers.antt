@@ -1,24 +1,20 @@
--- The loop's invariant: the row holds the codes of the firms passed, and zeros behind them. The measure is what is left of those that are listed. Assumes nothing.
-use Rattle.octets.proofs.Proving.{◌-◌, ◌∙◌, arith, refl}
+-- Each code is put right behind the last one; what is left are zeros. Assumes nothing.
+use Rattle.octets.proofs.Proving.{◌∙◌, arith, refl}
 use Rattle.octets.specs.Bytes.{joined}
 use Rattle.header.proofs.Listed.{row_next, row-all}
 use Rattle.header.proofs.settings.listed_firms.Goals as goal
 
 pub loop-k-init : goal.loop-k-init
 unfolding joined
-loop-k-init c = ((omega arith, refl), (refl, refl))
+loop-k-init c = (refl, refl, refl)
 
 pub loop-k-preserved : goal.loop-k-preserved
 loop-k-preserved c =
-    let loop = c in
-    let firms = loop.args.firms in
-    let inv = loop.loop-k.invariant in
-    let put-there = c.put_code.ensures in
-    let next = row_next firms loop.loop-k.k loop.loop-k.row _ (omega arith) (omega arith) inv.1.0 inv.1.1 put-there.0 put-there.1 in
-    ((omega arith, c.put_code.auto.row ∙ inv.0.1), (next.0, next.1))
+    let firms = c.args.firms in
+    let l = c.loop-k in
+    let next = row_next firms l.k l.row _ (omega arith) (omega arith) l.invariant.1 l.invariant.2 c.put_bytes4.ensures.0 c.put_bytes4.ensures.1 in
+    (c.put_bytes4.auto.s ∙ l.invariant.0, next.0, next.1)
 
 pub returns : goal.returns
 returns c =
-    let loop = c in
-    let start = loop in
-    loop.loop-k.invariant.1.0 ∙ row-all start.args.firms start.args.count loop.loop-k.k (omega arith) (omega (arith, loop.min-listed.ensures)) loop.loop-k.invariant.1.1
+    c.loop-k.invariant.1 ∙ row-all c.args.firms c.args.count c.loop-k.k (omega arith) (omega (arith, c.least-k-end.ensures)) c.loop-k.invariant.2

@@ -10,5 +10,5 @@ unfolding header_of
 returns c =
     let form = c in
     let start = form in
-    rw (form.byte_at.ensures, start.requires.1)
+    rw (form.byte_at.ensures, start.requires)
     (in-row true (number_tests start.args.s.now) ∙ sym (number-tests start.args.s.now))

@@ -4,4 +4,4 @@ use Rattle.orders.proofs.counts.executing.Goals as goal
 
 pub returns : goal.returns
 unfolding executing
-returns c = rw c.grown_by-executed.ensures
+returns c = rw c.grown_by.ensures

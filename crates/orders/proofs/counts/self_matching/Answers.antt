@@ -4,4 +4,4 @@ use Rattle.orders.proofs.counts.self_matching.Goals as goal
 
 pub returns : goal.returns
 unfolding self_matching
-returns c = rw c.grown_by-matched.ensures
+returns c = rw c.grown_by.ensures

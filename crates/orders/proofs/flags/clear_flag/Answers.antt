@@ -1,6 +1,6 @@
 -- A bit that is set is there to be taken away. Assumes nothing.
 use Rattle.octets.proofs.Proving.{answered}
-use Rattle.orders.specs.Flags.{has_flag, clear_flag}
+use Rattle.orders.specs.Flags.{clear_flag}
 use Rattle.orders.proofs.Bits.{clear_within}
 use Rattle.orders.proofs.flags.clear_flag.Goals as goal
 

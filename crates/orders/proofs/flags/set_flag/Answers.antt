@@ -1,6 +1,6 @@
 -- A bit that is not set leaves room for itself in a byte. Assumes nothing.
 use Rattle.octets.proofs.Proving.{answered, arith}
-use Rattle.orders.specs.Flags.{has_flag, set_flag}
+use Rattle.orders.specs.Flags.{set_flag}
 use Rattle.orders.proofs.Bits.{set-fits}
 use Rattle.orders.proofs.flags.set_flag.Goals as goal
 

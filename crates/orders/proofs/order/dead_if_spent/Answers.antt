@@ -2,11 +2,13 @@
 use Rattle.octets.proofs.Proving.{eq-eqb, ne_eqb}
 use Rattle.orders.specs.Order.{dead_if_spent}
 use Rattle.orders.proofs.order.dead_if_spent.Goals as goal
+use Rattle.orders.proofs.order.dead_if_spent.Goals.{then-open_shares-eq0, else-open_shares-eq0}
 
-pub returns-then-open_shares-eq0 : goal.returns-then-open_shares-eq0
+pub returns : goal.returns
 unfolding dead_if_spent
-returns-then-open_shares-eq0 c = rw (← c.open_shares.ensures, eq-eqb _ 0 c.if-open_shares-eq0.true)
-
-pub returns-else-open_shares-eq0 : goal.returns-else-open_shares-eq0
-unfolding dead_if_spent
-returns-else-open_shares-eq0 c = rw (← c.open_shares.ensures, ne_eqb _ 0 c.if-open_shares-eq0.false)
+returns c =
+    rw (← c.open_shares.ensures)
+    (elim c.if-open_shares-eq0.branch [
+      | then-open_shares-eq0 w ↦ rw (w.state-is, eq-eqb _ 0 w.if-open_shares-eq0.true)
+      | else-open_shares-eq0 w ↦ rw (w.state-is, ne_eqb _ 0 w.if-open_shares-eq0.false)
+    ])

@@ -17,5 +17,5 @@ returns c =
     let start = p1 in
     let put = puts-at letter_fields (letter_values start.args.details) start.args.s.now
     (p1.put_byte.ensures then p2.put_byte-2.ensures then p3.put_byte-3.ensures then p4.put_be32.ensures then p5.put_byte-4.ensures then ends)
-    48 56 refl (omega (arith, start.requires)) in
+    48 56 refl (omega arith) in
     (put.0, omega (arith, put.1))

@@ -1,5 +1,5 @@
 -- Each run is put right behind the last one, and together they are the whole. Assumes nothing.
-use Rattle.octets.proofs.Proving.{List, [], ◌∙◌, ◌∷◌, ap, arith, length, refl}
+use Rattle.octets.proofs.Proving.{List, [], ◌∙◌, ◌∷◌, ◌≡◌, ap, arith, length, refl}
 use Rattle.octets.proofs.Laws.{put_whole}
 use Rattle.wire.specs.Layout.{Field, ◌&◌, unbroken, text_at}
 use Rattle.wire.specs.Layout.{◌then◌, ends}
@@ -15,14 +15,12 @@ runs = text_at 0 28 ∷ text_at 28 20 ∷ text_at 48 8 ∷ text_at 56 24 ∷ []
 pub returns : goal.returns
 unfolding unbroken
 returns c =
-    let p4 = c in
-    let p3 = p4 in
-    let p2 = p3 in
-    let p1 = p2 in
-    let start = p1 in
-    let o = start.args.o in
-    let put = puts-at runs (opening o & traded o.details & letters o.details & ending o.flags o.details & tt) start.args.s.now
-    (p1.put_opening.ensures then p2.put_traded.ensures then p3.put_letters.ensures then p4.put_ending.ensures then ends)
-    0 80 refl (omega (arith, start.requires)) in
+    let o = c.args.o in
+    let s = c.unwrap-s.result.now in
+    let whole = rw c.unwrap-s.ensures at c.as_mut_array.ensures.cases in
+    let long : length s ≡ 80 = ap length whole.same ∙ whole.long in
+    let put = puts-at runs (opening o & traded o.details & letters o.details & ending o.flags o.details & tt) s
+    (c.put_opening.ensures then c.put_traded.ensures then c.put_letters.ensures then c.put_ending.ensures then ends)
+    0 80 refl (omega (arith, long)) in
     let all = order-runs o in
-    (put.0 ∙ put_whole start.args.s.now _ (omega (arith, put.1, start.requires)) ∙ all, omega (arith, ap length all, put.1))
+    (put.0 ∙ put_whole s _ (omega (arith, put.1, long)) ∙ all, omega (arith, ap length all, put.1))

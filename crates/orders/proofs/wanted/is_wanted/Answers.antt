@@ -6,11 +6,8 @@ use Rattle.orders.proofs.wanted.is_wanted.Goals as goal
 
 pub returns-then-lives : goal.returns-then-lives
 unfolding is_wanted ◌is◌ order_of
-returns-then-lives c =
-    let flagged = c in
-    let asked = flagged in
-    rw (c.meets.ensures, flagged.has_flag.ensures, flagged.byte_at.ensures, answered asked.lives.ensures asked.if-lives.true)
+returns-then-lives c = rw (c.meets.ensures, c.has_flag.ensures, c.byte_at.ensures, answered c.lives.ensures c.if-lives.true)
 
-pub returns : goal.returns
+pub returns-else-lives : goal.returns-else-lives
 unfolding is_wanted
-returns c = rw (answered c.lives.ensures c.if-lives.false)
+returns-else-lives c = rw (answered c.lives.ensures c.if-lives.false) c.if-lives.false

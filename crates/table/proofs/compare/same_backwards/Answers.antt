@@ -27,10 +27,10 @@ returns-else-four_at c =
     let eight = four in
     let tail = eq-eqb _ _ (sym eight.eight_at.ensures ∙ four.if-eight_at.true ∙ eight.eight_at-2.ensures) in
     let middle = ne_eqb _ _ (λ e. c.if-four_at.false (four.four_at.ensures ∙ e ∙ sym four.four_at-then-eight_at.ensures)) in
-    sym (asked (goal.at.returns-else-four_at c).After-shared_slice_known-2-1 ∙ rw (tail, middle))
+    ne_eqb _ _ c.if-four_at.false ∙ sym (asked (goal.at.returns-else-four_at c).After-shared_slice_known-2-1 ∙ rw (tail, middle))
 
 pub returns-else-eight_at : goal.returns-else-eight_at
 returns-else-eight_at c =
     let eight = c in
     let tail = ne_eqb _ _ (λ e. c.if-eight_at.false (eight.eight_at.ensures ∙ e ∙ sym eight.eight_at-2.ensures)) in
-    sym (asked (goal.at.returns-else-eight_at c).After-shared_slice_known-2-1 ∙ rw tail)
+    ne_eqb _ _ c.if-eight_at.false ∙ sym (asked (goal.at.returns-else-eight_at c).After-shared_slice_known-2-1 ∙ rw tail)

@@ -1,5 +1,5 @@
 -- The loop's invariant: the first record with the token is still ahead. The measure is what is left of n.
-use Rattle.octets.proofs.Proving.{◌+◌, ◌-◌, ◌≡◌, answered, arith}
+use Rattle.octets.proofs.Proving.{◌+◌, ◌≡◌, answered, arith}
 use Rattle.octets.proofs.First.{Ahead, ahead-start, ahead-found, ahead-next, ahead-end}
 use Rattle.table.specs.Table.{records_in, has_token}
 use Rattle.table.proofs.find.first.Goals as goal

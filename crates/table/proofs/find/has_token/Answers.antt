@@ -15,5 +15,5 @@ returns c =
     let start = (goal.at.returns c).Start in
     let own = c.record_bytes-r in
     c.same_backwards.ensures
-    ∙ either_end _ _ token_size (length_part own.result.now 1 token_size (omega (arith, own.ensures.1))) (omega (arith, start))
-    ∙ ap (λ (r : List ℕ). same (order_of r).token start.args.token) own.ensures.0
+    ∙ either_end _ _ token_size (length_part own.result.now 1 token_size (omega arith)) (omega (arith, start))
+    ∙ ap (λ (r : List ℕ). same (order_of r).token start.args.token) own.ensures

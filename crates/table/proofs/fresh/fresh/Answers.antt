@@ -1,5 +1,5 @@
 -- The answer is asked first, and only done writes. Assumes nothing.
-use Rattle.answers.specs.Answer.{is_done, if_done}
+use Rattle.answers.specs.Answer.{if_done}
 use Rattle.table.specs.Fresh.{fresh_table}
 use Rattle.table.proofs.fresh.fresh.Goals as goal
 

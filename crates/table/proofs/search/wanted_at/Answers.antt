@@ -5,4 +5,4 @@ use Rattle.table.proofs.search.wanted_at.Goals as goal
 
 pub returns-then-i-n : goal.returns-then-i-n
 unfolding order_at
-returns-then-i-n c = rw (lt-ltb _ _ c.if-i-n.true, c.is_wanted.ensures, c.record_bytes.ensures.0)
+returns-then-i-n c = rw (lt-ltb _ _ c.if-i-n.true, c.is_wanted.ensures, c.record_bytes.ensures)

@@ -1,5 +1,5 @@
--- The loop's invariant: the bits of the j records passed are made. The measure is what is left of the eight. Assumes nothing.
-use Rattle.octets.proofs.Proving.{Bool, List, ◌+◌, ◌-◌, ◌∙◌, ◌≡◌, add-one, ap, arith, rules, refl, sym, ℕ}
+-- A bit is made in each turn. Assumes nothing.
+use Rattle.octets.proofs.Proving.{Bool, List, ◌+◌, ◌∙◌, ◌≡◌, add-one, ap, arith, refl, sym, ℕ}
 use Rattle.octets.specs.Bits.{with_bit}
 use Rattle.bitrow.specs.Row.{packed}
 use Rattle.orders.specs.Order.{order_of, is_live}
@@ -15,7 +15,7 @@ next t at j byte on made here =
 
 pub loop-j-init : goal.loop-j-init
 unfolding packed
-loop-j-init c = (omega arith, refl)
+loop-j-init c = refl
 
 pub overflow_mul-at : goal.overflow_mul-at
 unfolding records_in
@@ -25,26 +25,16 @@ pub overflow_add-at : goal.overflow_add-at
 unfolding records_in
 overflow_add-at c = omega (arith, c.requires)
 
-pub record_bytes-requires : goal.record_bytes-requires
-record_bytes-requires c = omega (arith, c.requires)
-
 pub loop-j-preserved : goal.loop-j-preserved
 unfolding order_at
 loop-j-preserved c =
-    let l = c.loop-j in
     let a = c.args in
-    let here = c.lives.ensures ∙ ap (λ (r : List ℕ). is_live (order_of r)) c.record_bytes.ensures.0 in
-    (omega arith, c.with_bit-byte.ensures ∙ next a.table.now a.at l.j l.byte _ l.invariant.1 here)
+    let l = c.loop-j in
+    let here = c.lives.ensures ∙ ap (λ (r : List ℕ). is_live (order_of r)) c.record_bytes.ensures in
+    c.with_bit-byte.ensures ∙ next a.table.now a.at l.j l.byte _ l.invariant here
 
 pub returns : goal.returns
 returns c =
-    let l = c.loop-j in
     let a = c.args in
-    let e : l.j ≡ 8 = omega arith in
-    l.invariant.1 ∙ ap (λ (w : ℕ). packed w (live a.table.now a.at)) e
-
-pub lives-requires : goal.lives-requires
-lives-requires c = search rules
-
-pub with_bit-byte-requires : goal.with_bit-byte-requires
-with_bit-byte-requires c = search rules
+    let e : c.loop-j.j ≡ 8 = omega arith in
+    c.loop-j.invariant ∙ ap (λ (w : ℕ). packed w (live a.table.now a.at)) e

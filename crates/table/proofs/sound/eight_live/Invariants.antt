@@ -1,5 +1,5 @@
--- The loop's invariant: the bits of the j records passed are made. The measure is what is left of the eight. Assumes nothing.
-use Rattle.octets.proofs.Proving.{Bool, List, ◌*◌, ◌+◌, ◌-◌, ◌≡◌, ◌≤◌, ℕ}
+-- The loop's invariant: the bits of the j records passed are made.
+use Rattle.octets.proofs.Proving.{Bool, List, ◌*◌, ◌+◌, ◌≡◌, ℕ}
 use Rattle.bitrow.specs.Row.{packed}
 use Rattle.orders.specs.Order.{is_live}
 use Rattle.table.specs.Table.{order_at}
@@ -9,7 +9,4 @@ abbrev pub live : List ℕ → ℕ → ℕ → Bool
 live t at j = is_live (order_at t (8 * at + j))
 
 abbrev pub invariant-loop-j : goal.invariant-loop-j
-invariant-loop-j l = (l.j ≤ 8) × (l.byte ≡ packed l.j (live l.table l.at))
-
-abbrev pub decreases-loop-j : goal.decreases-loop-j
-decreases-loop-j l = 8 - l.j
+invariant-loop-j l = l.byte ≡ packed l.j (live l.table l.at)

@@ -5,9 +5,8 @@ use Rattle.table.proofs.sound.size_good.Goals as goal
 pub returns-then-n : goal.returns-then-n
 unfolding size_good
 returns-then-n c =
-    let asked = c in
-    rw (← asked.records_in-n.ensures, c.if-n.true, c.table_size.ensures)
+    rw (← c.records_in-n.ensures, c.if-n.true, c.table_size.ensures)
 
-pub returns : goal.returns
+pub returns-else-n : goal.returns-else-n
 unfolding size_good
-returns c = rw (← c.records_in-n.ensures, c.if-n.false)
+returns-else-n c = rw (← c.records_in-n.ensures, c.if-n.false)

@@ -9,7 +9,7 @@ returns-then-header_sound c =
     let header = c in
     let head = header in
     rw (answered head.size_good.ensures head.if-size_good.true)
-    (rw (rw (head.head_bytes.ensures.0, header.records_in.ensures) at (answered header.header_sound.ensures c.if-header_sound.true), c.records_sound.ensures, and-true))
+    (rw (rw (head.head_bytes.ensures, header.records_in.ensures) at (answered header.header_sound.ensures c.if-header_sound.true), c.records_sound.ensures, and-true))
 
 pub returns-else-header_sound : goal.returns-else-header_sound
 unfolding sound
@@ -17,7 +17,7 @@ returns-else-header_sound c =
     let header = c in
     let head = header in
     rw (answered head.size_good.ensures head.if-size_good.true)
-    (rw (rw (head.head_bytes.ensures.0, header.records_in.ensures) at (answered header.header_sound.ensures c.if-header_sound.false)) cc)
+    (rw (rw (head.head_bytes.ensures, header.records_in.ensures) at (answered header.header_sound.ensures c.if-header_sound.false)) cc)
 
 pub returns-else-size_good : goal.returns-else-size_good
 unfolding sound

@@ -13,6 +13,6 @@ pub returns-then-size_good : goal.returns-then-size_good
 unfolding form_good
 returns-then-size_good c = rw (answered c.size_good.ensures c.if-size_good.true, c.byte_at.ensures)
 
-pub returns : goal.returns
+pub returns-else-size_good : goal.returns-else-size_good
 unfolding form_good
-returns c = rw (answered c.size_good.ensures c.if-size_good.false)
+returns-else-size_good c = rw (answered c.size_good.ensures c.if-size_good.false) c.if-size_good.false

@@ -7,7 +7,7 @@ pub returns-then-bit_at : goal.returns-then-bit_at
 unfolding open_before is_marked order_at
 returns-then-bit_at c =
     let asked = c in
-    rw (c.open_in.ensures, c.record_bytes.ensures.0, answered (rw asked.bit_bytes.ensures at asked.bit_at.ensures) c.if-bit_at.true)
+    rw (c.open_in.ensures, c.record_bytes.ensures, answered (rw asked.bit_bytes.ensures at asked.bit_at.ensures) c.if-bit_at.true)
 
 pub returns : goal.returns
 unfolding open_before is_marked

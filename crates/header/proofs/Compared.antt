@@ -1,0 +1,18 @@
+-- What `==` finds of two firms: whether their bytes are the same, and so whether all are spaces. Assumes nothing.
+use Rattle.octets.proofs.Proving.{Bool, List, [], ◌&&◌, ◌∷◌, ◌≡◌, ap, arith, eqb, length, refl, replicate, suc, zero, ℕ}
+use Rattle.std.specs.Cmp.Lexicographic.{pointwise}
+use Rattle.octets.specs.Bytes.{same, all_are}
+
+pub compared : (xs ys : List ℕ) → pointwise eqb xs ys ≡ same xs ys
+unfolding same
+compared [] [] = refl
+compared [] (y ∷ ys) = refl
+compared (x ∷ xs) [] = refl
+compared (x ∷ xs) (y ∷ ys) = ap (λ (b : Bool). eqb x y && b) (compared xs ys)
+
+pub compared-all : (x : ℕ) (xs : List ℕ) (n : ℕ) → length xs ≡ n → pointwise eqb xs (replicate n x) ≡ all_are x xs
+unfolding all_are
+compared-all x [] zero e = refl
+compared-all x [] (suc n) e = absurd (omega arith)
+compared-all x (y ∷ ys) zero e = absurd (omega arith)
+compared-all x (y ∷ ys) (suc n) e = ap (λ (b : Bool). eqb y x && b) (compared-all x ys n (omega arith))
