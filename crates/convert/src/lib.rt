@@ -11,7 +11,7 @@ ghost use Rattle.convert.specs.Old.{old_records};
 ghost use Rattle.convert.specs.Convert.{convert_answer, carried, with_orders, converted};
 
 use crate::old::{old_records, old_sound, old_used, renewed};
-use answers::{Answer, first_of, is_done};
+use answers::{Answer, is_done};
 use header::{HEADER_SIZE, SUM_PLACE};
 use octets::{put_bytes, put_number};
 use orders::record::order_of;
@@ -20,17 +20,17 @@ use table::sound::table_size;
 use table::store::store_order;
 
 // 10 before 13: how long the new table is, only a sound old one says.
+#[tactic(auto, unfolding(crate::specs::Convert::convert_answer))]
 fn convert_answer(old: &[u8], m: usize) -> Answer
     ensures { result ≡ convert_answer old.now m }
 {
-    if old_sound(old) {
-        return first_of(
-            m != table_size(old_records(old)),
-            Answer::NoRoom,
-            Answer::Done,
-        );
+    if !old_sound(old) {
+        return Answer::NotSound;
     }
-    Answer::NotSound
+    if m != table_size(old_records(old)) {
+        return Answer::NoRoom;
+    }
+    Answer::Done
 }
 
 // Every byte of the second buffer is written, one run behind the other, so that nothing is left of what it held.
@@ -52,10 +52,8 @@ fn store_orders(old: &[u8], table: &mut [u8], n: usize)
     requires { n ≤ old_records old.now }
     ensures { table.new ≡ with_orders old.now n table.old }
 {
-    let mut i: usize = 0;
-    while i < n {
+    for i in 0..n {
         store_order(table, i, order_of(record_at(old, i)));
-        i += 1;
     }
 }
 

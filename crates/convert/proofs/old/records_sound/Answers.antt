@@ -10,8 +10,8 @@ few : (old : List ℕ) → old_used old ≤ old_records old
 unfolding old_used
 few old = omega arith
 
-pub walk-found-requires : goal.walk-found-requires
-walk-found-requires c =
+pub walk-requires : goal.walk-requires
+walk-requires c =
     let old = c.args.old.now in
     let size = of-old-size old c.requires in
     (omega (arith, few old, c.old_used.ensures, size.long), omega (arith, few old, c.old_used.ensures, size.most))
@@ -20,4 +20,4 @@ pub returns : goal.returns
 unfolding found_in
 returns c =
     let old = c.args.old.now in
-    ap (λ (f : Found). f.ok) c.walk-found.ensures ∙ ap (λ (n : ℕ). (found_in old n).ok) c.old_used.ensures
+    ap (λ (f : Found). f.ok) c.walk.ensures ∙ ap (λ (n : ℕ). (found_in old n).ok) c.old_used.ensures
