@@ -21,13 +21,3 @@ pub count-first : (p : ℕ → Bool) (n : ℕ) → count_below (suc n) p ≡ pic
 unfolding count_below
 count-first p zero = omega arith
 count-first p (suc n) = omega (arith, count-first p n)
-
--- no more pass than there are
-pub count_most : (p : ℕ → Bool) (n : ℕ) → count_below n p ≤ n
-unfolding count_below
-count_most p zero = omega arith
-count_most p (suc n) = omega (arith, count_most p n, at_most (p n))
-  where
-    at_most : (b : Bool) → pick b 1 0 ≤ 1
-    at_most true = lit≤ tt
-    at_most false = lit≤ tt

@@ -1,5 +1,8 @@
 -- The laws of a row of bits: past the row none is set, one changes alone, and rows with the same bits are the same bytes. Assumes nothing.
-use Rattle.octets.proofs.Proving.{Bool, List, List·get_d-eq-default, ◌%◌, ◌*◌, ◌+◌, ◌/◌, ◌<◌, ◌∙◌, ◌≡◌, ◌≢◌, ◌≤◌, add-one, ap, ap₂, arith, dec_lt, false, get_or, get_or-set_same, le-ltb, length, length-set, lit<, lt-ltb, mod-lt, refl, set, set_split, suc, sym, zero, ℕ, ℕ_discrete}
+use Rattle.octets.proofs.Proving.{Bool, List, List·get_d-eq-default, ◌%◌, ◌*◌, ◌+◌, ◌/◌, ◌<◌, ◌∙◌, ◌≡◌, ◌≢◌, ◌≤◌, add-one, ap, ap₂, arith, dec_lt, false, get_or, get_or-set_same, le-ltb, length, length-set, lit<, lt-ltb, mod-lt, refl, set, set_split, suc, sym, take, zero, ℕ, ℕ_discrete}
+use Rattle.std.specs.List.{sum_by}
+use Rattle.std.proofs.lemmas.List.{take_all}
+use Rattle.std.proofs.lemmas.List.Sums.{sum_by_more}
 use lib.Count.{ones}
 use lib.Seq.{ext_get_or, get_or-set_other, set-get_or, set_out}
 use Rattle.octets.specs.Choice.{count_below}
@@ -33,12 +36,24 @@ bit_byte xs q j h =
     ap₂ (λ (a k : ℕ). bit_of (get_or xs a 0) k) e f
 
 -- the bits of the bytes to k, and those of byte k
-pub ones-next : (xs : List ℕ) (k : ℕ) → get_or xs k 0 < 256 → count_below (8 * (k + 1)) (bit_at xs) ≡ count_below (8 * k) (bit_at xs) + ones (get_or xs k 0)
+ones-next : (xs : List ℕ) (k : ℕ) → get_or xs k 0 < 256 → count_below (8 * (k + 1)) (bit_at xs) ≡ count_below (8 * k) (bit_at xs) + ones (get_or xs k 0)
 ones-next xs k h =
     let e : 8 * (k + 1) ≡ 8 * k + 8 = omega arith in
     let byte : count_below 8 (λ j. bit_at xs (8 * k + j)) ≡ ones (get_or xs k 0) =
     count_same _ (bit_of (get_or xs k 0)) 8 (bit_byte xs k) ∙ sym (ones-count 8 (get_or xs k 0) h) in
     ap (λ (m : ℕ). count_below m (bit_at xs)) e ∙ count-split (bit_at xs) (8 * k) 8 ∙ ap (λ (m : ℕ). count_below (8 * k) (bit_at xs) + m) byte
+
+-- and so the bits of the whole row
+pub ones-all : (xs : List ℕ) → Bytes xs → sum_by ones xs ≡ count_below (8 * length xs) (bit_at xs)
+unfolding count_below
+ones-all xs bytes = ap (sum_by ones) (sym (take_all (length xs) xs (omega arith))) ∙ so-far (length xs) (omega arith)
+  where
+    so-far : (k : ℕ) → k ≤ length xs → sum_by ones (take k xs) ≡ count_below (8 * k) (bit_at xs)
+    so-far zero h = refl
+    so-far (suc k) h =
+        let here : sum_by ones (take k xs) ≡ count_below (8 * k) (bit_at xs) = so-far k (omega arith) in
+        let more : sum_by ones (take (k + 1) xs) ≡ sum_by ones (take k xs) + ones (get_or xs k 0) = sum_by_more ones xs k 0 (omega arith) in
+        rw add-one at (more ∙ ap (λ (m : ℕ). m + ones (get_or xs k 0)) here ∙ sym (ones-next xs k (bytes k)))
 
 -- ---- bits that are not set
 

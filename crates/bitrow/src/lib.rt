@@ -4,7 +4,8 @@
 // A bit past the row is not set, and setting it changes nothing: so none of these asks where the row ends but `ones`, whose count must fit.
 #![tactic(auto)]
 
-ghost use Rattle.std.specs.Prelude.{◌≡◌, true, false, ◌*◌, ◌<◌, ◌^◌, length};
+ghost use Rattle.std.specs.Prelude.{◌≡◌, true, false, ◌*◌, ◌<◌, ◌≤◌, ◌^◌, length};
+ghost use Rattle.std.specs.Int.RustNames.{count_ones};
 ghost use Rattle.octets.specs.Choice.{first_below};
 ghost use Rattle.octets.specs.Bits.{bit_of, with_bit};
 ghost use Rattle.bitrow.specs.Row.{bit_at, with_bit_at, ones_in, clear_from};
@@ -15,14 +16,10 @@ use octets::bits::{bit_of, none_from, with_bit};
 pub fn bit_at(bits: &[u8], i: usize) -> bool
     ensures { result ≡ bit_at bits.now i }
 {
-    let at = i / 8;
-    if at < bits.len() {
-        return bit_of(bits[at], i % 8);
-    }
-    false
+    bits.get(i / 8).is_some_and(|b| bit_of(*b, i % 8))
 }
 
-// Only the byte in which bit i lies is written.
+// Only the byte in which bit i lies is written. Its place is tested here, since a slice's `get_mut` tells a proof no element.
 pub fn set_bit(bits: &mut [u8], i: usize, on: bool)
     ensures { bits.new ≡ with_bit_at bits.old i on }
 {
@@ -32,25 +29,26 @@ pub fn set_bit(bits: &mut [u8], i: usize, on: bool)
     }
 }
 
-// The ones of the whole row. The processor counts those of a byte at once.
+// The ones of one byte, which the processor counts at once. That they are few bounds the sum over a row.
+fn ones_of(b: &u8) -> usize
+    ensures { (result ≡ count_ones b.now) × (result ≤ 8) }
+{
+    b.count_ones() as usize
+}
+
+// The ones of the whole row.
 pub fn ones(bits: &[u8]) -> usize
     requires { 8 * length bits.now < 2 ^ 64 }
     ensures { result ≡ ones_in bits.now }
 {
-    let mut n: usize = 0;
-    let mut k: usize = 0;
-    while k < bits.len() {
-        n = n + u8::count_ones(bits[k]) as usize;
-        k += 1;
-    }
-    n
+    bits.iter().map(ones_of).sum()
 }
 
 // The place of the lowest bit that is set, or 8.
 pub fn lowest(b: u8) -> usize
     ensures { result ≡ first_below 8 (bit_of b) }
 {
-    u8::trailing_zeros(b) as usize
+    b.trailing_zeros() as usize
 }
 
 // A byte without one of its bits that are set: whoever has just found the bit need not ask for it again.

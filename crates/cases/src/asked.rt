@@ -1,7 +1,7 @@
 // What the status call says of all orders, where a script asks it.
 use crate::run::Run;
 use crate::text::{put, put_number};
-use answers::{number, is_done};
+use answers::number;
 use table::status::{Tally, status};
 
 fn both_numbers(tally: Tally, out: &mut [u8], from: usize) -> usize {
@@ -16,7 +16,7 @@ pub(crate) fn asked(table: &[u8], run: Run, out: &mut [u8], from: usize) -> usiz
     if run.asks {
         let tally = status(table);
         let answer = tally.answer;
-        if is_done(answer) {
+        if answer.is_ok() {
             return both_numbers(tally, out, from);
         }
         let at = put(out, from, b", status ");

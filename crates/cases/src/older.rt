@@ -1,7 +1,7 @@
 // The table of two records in its old form, without bits, and what the converter makes of it.
 use crate::run::Last;
 use crate::text::{part, put, same};
-use answers::{Answer, Refusal, number, place, is_done};
+use answers::{Answer, Refusal, number, place};
 use convert::convert;
 
 // How long it is: the bits stood behind it.
@@ -36,7 +36,7 @@ fn outcome(answer: Answer, table: &[u8], second: &[u8]) -> Last {
 }
 
 fn taken(answer: Answer, n: usize) -> usize {
-    if is_done(answer) { n } else { 0 }
+    if answer.is_ok() { n } else { 0 }
 }
 
 // What it has rebuilt is the table from here on.

@@ -11,7 +11,7 @@ ghost use Rattle.convert.specs.Old.{old_records};
 ghost use Rattle.convert.specs.Convert.{convert_answer, carried, with_orders, converted};
 
 use crate::old::{old_records, old_sound, old_used, renewed};
-use answers::{Answer, Refusal, is_done, first_of};
+use answers::{Answer, Refusal};
 use header::{HEADER_SIZE, SUM_PLACE};
 use octets::{put_bytes, put_number};
 use orders::record::order_of;
@@ -20,17 +20,17 @@ use table::sound::table_size;
 use table::store::store_order;
 
 // 10 before 13: how long the new table is, only a sound old one says.
+#[tactic(auto, unfolding(crate::specs::Convert::convert_answer))]
 fn convert_answer(old: &[u8], m: usize) -> Answer
     ensures { result ≡ convert_answer old.now m }
 {
-    if old_sound(old) {
-        return first_of(
-            m != table_size(old_records(old)),
-            Err(Refusal::NoRoom),
-            Ok(()),
-        );
+    if !old_sound(old) {
+        return Err(Refusal::NotSound);
     }
-    Err(Refusal::NotSound)
+    if m != table_size(old_records(old)) {
+        return Err(Refusal::NoRoom);
+    }
+    Ok(())
 }
 
 // Every byte of the second buffer is written, one run behind the other, so that nothing is left of what it held.
@@ -52,10 +52,8 @@ fn store_orders(old: &[u8], table: &mut [u8], n: usize)
     requires { n ≤ old_records old.now }
     ensures { table.new ≡ with_orders old.now n table.old }
 {
-    let mut i: usize = 0;
-    while i < n {
+    for i in 0..n {
         store_order(table, i, order_of(record_at(old, i)));
-        i += 1;
     }
 }
 
@@ -63,7 +61,7 @@ pub fn convert(old: &[u8], table: &mut [u8]) -> Answer
     ensures { (result ≡ convert_answer old.now (length table.old)) × (table.new ≡ converted old.now table.old) }
 {
     let answer = convert_answer(old, table.len());
-    if is_done(answer) {
+    if answer.is_ok() {
         carry(old, table);
         store_orders(old, table, old_used(old));
     }

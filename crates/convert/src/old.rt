@@ -9,7 +9,7 @@ ghost use Rattle.convert.specs.Old.{old_records, old_size_good, old_used, renewe
 
 use header::sound::header_sound;
 use header::{HEADER_SIZE, SUM_PLACE, TABLE_FORM};
-use octets::{are_zero, byte_at};
+use octets::{are_zero, be32, byte_at};
 use orders::record::RECORD_SIZE;
 use table::sound::{FEWEST_RECORDS, MOST_RECORDS};
 use table::walk::walk;
@@ -18,13 +18,11 @@ use table::walk::walk;
 const OLD_FORM: u8 = 0;
 
 // How many records the old table has room for.
+#[tactic(auto, unfolding(crate::specs::Old::old_records))]
 pub(crate) fn old_records(old: &[u8]) -> usize
     ensures { result ≡ old_records old.now }
 {
-    if old.len() < HEADER_SIZE {
-        return 0;
-    }
-    (old.len() - HEADER_SIZE) / RECORD_SIZE
+    old.len().saturating_sub(HEADER_SIZE) / RECORD_SIZE
 }
 
 // How many records are used, of those that there are.
@@ -34,18 +32,17 @@ pub(crate) fn old_used(old: &[u8]) -> usize
     if old.len() < HEADER_SIZE {
         return 0;
     }
-    (octets::be32(&old[0..SUM_PLACE], 4) as usize).min(old_records(old))
+    let used = be32(&old[0..SUM_PLACE], 4) as usize;
+    used.min(old_records(old))
 }
 
 // 1 to 800 records, and nothing behind them.
+#[tactic(auto, unfolding(crate::specs::Old::old_size_good))]
 fn size_good(old: &[u8]) -> bool
     ensures { result ≡ old_size_good old.now }
 {
     let n = old_records(old);
-    if (FEWEST_RECORDS <= n) & (n <= MOST_RECORDS) {
-        return old.len() == HEADER_SIZE + RECORD_SIZE * n;
-    }
-    false
+    (FEWEST_RECORDS..=MOST_RECORDS).contains(&n) && old.len() == HEADER_SIZE + RECORD_SIZE * n
 }
 
 // The bytes of the header's value with the form of today.
@@ -53,7 +50,7 @@ pub(crate) fn renewed(old: &[u8]) -> [u8; SUM_PLACE]
     requires { header_size ≤ length old.now }
     ensures { result ≡ renewed old.now }
 {
-    let mut head = [0u8; SUM_PLACE];
+    let mut head = [0; SUM_PLACE];
     head.copy_from_slice(&old[0..SUM_PLACE]);
     head[2] = TABLE_FORM;
     head
@@ -63,18 +60,18 @@ fn records_sound(old: &[u8]) -> bool
     requires { old_size_good old.now ≡ true }
     ensures { result ≡ all_below (old_used old.now) (λ i. record_sound (record_bytes old.now i)) }
 {
-    walk(old, old_used(old)).is_some()
+    walk(old, old_used(old)).ok
 }
 
+#[tactic(auto, unfolding(crate::specs::Old::old_sound))]
 pub fn old_sound(old: &[u8]) -> bool
     ensures { result ≡ old_sound old.now }
 {
-    if size_good(old) {
-        let head = renewed(old);
-        return (byte_at(old, 2) == OLD_FORM)
-            & header_sound(&head, old_records(old))
-            & are_zero(old, SUM_PLACE, 4)
-            & records_sound(old);
+    if !size_good(old) {
+        return false;
     }
-    false
+    byte_at(old, 2) == OLD_FORM
+        && header_sound(&renewed(old), old_records(old))
+        && are_zero(old, SUM_PLACE, 4)
+        && records_sound(old)
 }

@@ -64,7 +64,7 @@ pub fn header_of(s: &[u8; SUM_PLACE]) -> Header
         last: octets::be64(s, 8),
         reference: octets::be64(s, 16),
         threshold: Total(octets::be32(s, 24)),
-        firms: octets::bytes32_at(s, 28),
+        firms: octets::bytes_at(s, 28),
     }
 }
 
@@ -85,7 +85,7 @@ fn put_standing(s: &mut [u8; SUM_PLACE], h: Header)
 {
     octets::put_be64(s, 16, h.reference);
     octets::put_be32(s, 24, h.threshold.0);
-    octets::put_bytes32(s, 28, h.firms);
+    octets::put_array(s, 28, h.firms);
 }
 
 // The bytes of the header's value, over what is there.

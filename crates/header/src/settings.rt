@@ -28,8 +28,8 @@ fn listed_firms(firms: [Firm; 8], count: usize) -> [u8; 32]
     ensures { result ≡ listed_firms firms count }
 {
     let mut row = [0u8; 32];
-    for k in 0..least(count, MOST_FIRMS) {
-        octets::put_bytes4(&mut row, FIRM_SIZE * k, firms[k].code);
+    for k in 0..count.min(MOST_FIRMS) {
+        octets::put_array(&mut row, FIRM_SIZE * k, firms[k].code);
     }
     row
 }

@@ -27,8 +27,8 @@ fn kept_of(s: &[u8; RECORD_SIZE]) -> Kept
     ensures { result ≡ (order_of s.now).details.kept }
 {
     Kept {
-        stock: bytes8_at(s, 28),
-        firm: bytes4_at(s, 44),
+        stock: bytes_at(s, 28),
+        firm: bytes_at(s, 44),
         capacity: byte_at(s, 49),
         cross: byte_at(s, 55),
     }
@@ -53,7 +53,7 @@ fn details_of(s: &[u8; RECORD_SIZE]) -> Details
         kept: kept_of(s),
         terms: terms_of(s),
         reference: be64(s, 56),
-        previous: bytes14_at(s, 65),
+        previous: bytes_at(s, 65),
         spare: byte_at(s, 79),
     }
 }
@@ -63,7 +63,7 @@ pub fn order_of(s: &[u8; RECORD_SIZE]) -> Order
 {
     Order {
         state: byte_at(s, 0),
-        token: bytes14_at(s, 1),
+        token: bytes_at(s, 1),
         side: byte_at(s, 15),
         shares: counts_of(s),
         flags: byte_at(s, 64),
@@ -76,7 +76,7 @@ fn put_opening(s: &mut [u8; RECORD_SIZE], o: Order)
     ensures { (s.new ≡ put s.old 0 (opening o)) × (length (opening o) ≡ 28) }
 {
     put_byte(s, 0, o.state);
-    put_bytes14(s, 1, o.token);
+    put_array(s, 1, o.token);
     put_byte(s, 15, o.side);
     put_be32(s, 16, o.shares.liable.0);
     put_be32(s, 20, o.shares.executed.0);
@@ -86,10 +86,10 @@ fn put_opening(s: &mut [u8; RECORD_SIZE], o: Order)
 fn put_traded(s: &mut [u8; RECORD_SIZE], details: Details)
     ensures { (s.new ≡ put s.old 28 (traded details)) × (length (traded details) ≡ 20) }
 {
-    put_bytes8(s, 28, details.kept.stock);
+    put_array(s, 28, details.kept.stock);
     put_be32(s, 36, details.terms.price);
     put_be32(s, 40, details.terms.time);
-    put_bytes4(s, 44, details.kept.firm);
+    put_array(s, 44, details.kept.firm);
 }
 
 fn put_letters(s: &mut [u8; RECORD_SIZE], details: Details)
@@ -107,7 +107,7 @@ fn put_ending(s: &mut [u8; RECORD_SIZE], flags: u8, details: Details)
 {
     put_be64(s, 56, details.reference);
     put_byte(s, 64, flags);
-    put_bytes14(s, 65, details.previous);
+    put_array(s, 65, details.previous);
     put_byte(s, 79, details.spare);
 }
 

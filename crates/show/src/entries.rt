@@ -6,7 +6,7 @@ use crate::words::{
     end_line, say_firm, say_head, say_letter, say_number, say_price, say_refused, say_stamp,
     say_stock, say_token,
 };
-use answers::{place, is_done};
+use answers::place;
 use std::io::Stdout;
 use tape::judging::judge;
 use tape::kinds::{Kind, kind_of};
@@ -18,7 +18,7 @@ use tape::reading::{
 // By the kind. An entry that is bad in itself is shown by its answer, and with a bad field by a line that points at its first bad byte.
 pub(crate) fn show_entry(out: Stdout, s: &[u8]) -> bool {
     let answer = judge(s);
-    if is_done(answer) {
+    if answer.is_ok() {
         return show_legal(out, s);
     }
     let shown = say_refused(out, b"Entry", answer);

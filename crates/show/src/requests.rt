@@ -1,6 +1,6 @@
 // A row of messages as clients send them to the purge port, one line a message.
 use crate::words::{end_line, say, say_account, say_firm, say_number, say_refused, say_symbol};
-use answers::{Answer, place, is_done};
+use answers::{Answer, place};
 use purge::mass_cancel::read_mass_cancel;
 use purge::order_entry::{DISABLE, ENABLE, OrderEntryRead, read_disable, read_enable};
 use std::io::Stdout;
@@ -25,7 +25,7 @@ pub(crate) fn show_request(out: Stdout, s: &[u8]) -> bool {
 fn show_mass_cancel(out: Stdout, s: &[u8]) -> bool {
     let found = read_mass_cancel(s);
     let answer = found.answer;
-    if is_done(answer) {
+    if answer.is_ok() {
         let m = found.body;
         let firm = m.firm;
         let account = m.account;
@@ -43,7 +43,7 @@ fn show_mass_cancel(out: Stdout, s: &[u8]) -> bool {
 // D and E differ in their names alone.
 fn show_order_entry(out: Stdout, name: &[u8], found: OrderEntryRead) -> bool {
     let answer = found.answer;
-    if is_done(answer) {
+    if answer.is_ok() {
         let m = found.body;
         let firm = m.firm;
         let account = m.account;

@@ -3,7 +3,7 @@ use crate::words::{
     end_line, say_firm, say_head, say_letter, say_number, say_price, say_refused, say_stamp,
     say_stock, say_token,
 };
-use answers::is_done;
+
 use outbound::accepted::read_accepted;
 use outbound::aiq_cancelled::read_aiq_cancelled;
 use outbound::broken_trade::read_broken_trade;
@@ -45,7 +45,7 @@ pub(crate) fn show_message(out: Stdout, s: &[u8]) -> bool {
 fn show_system_event(out: Stdout, s: &[u8]) -> bool {
     let found = read_system_event(s);
     let answer = found.answer;
-    if is_done(answer) {
+    if answer.is_ok() {
         let m = found.body;
         say_stamp(out, b"System Event ", m.stamp);
         say_letter(out, b" event ", m.event);
@@ -76,7 +76,7 @@ fn say_order(out: Stdout, order: Stated) {
 fn show_accepted(out: Stdout, s: &[u8]) -> bool {
     let found = read_accepted(s);
     let answer = found.answer;
-    if is_done(answer) {
+    if answer.is_ok() {
         let m = found.body;
         let token = m.token;
         let order = m.order;
@@ -91,7 +91,7 @@ fn show_accepted(out: Stdout, s: &[u8]) -> bool {
 fn show_replaced(out: Stdout, s: &[u8]) -> bool {
     let found = read_replaced(s);
     let answer = found.answer;
-    if is_done(answer) {
+    if answer.is_ok() {
         let m = found.body;
         let token = m.token;
         let order = m.order;
@@ -108,7 +108,7 @@ fn show_replaced(out: Stdout, s: &[u8]) -> bool {
 fn show_canceled(out: Stdout, s: &[u8]) -> bool {
     let found = read_canceled(s);
     let answer = found.answer;
-    if is_done(answer) {
+    if answer.is_ok() {
         let m = found.body;
         let token = m.token;
         say_head(out, b"Canceled ", m.stamp, token);
@@ -122,7 +122,7 @@ fn show_canceled(out: Stdout, s: &[u8]) -> bool {
 fn show_aiq_cancelled(out: Stdout, s: &[u8]) -> bool {
     let found = read_aiq_cancelled(s);
     let answer = found.answer;
-    if is_done(answer) {
+    if answer.is_ok() {
         let m = found.body;
         let token = m.token;
         say_head(out, b"AIQ Cancelled ", m.stamp, token);
@@ -139,7 +139,7 @@ fn show_aiq_cancelled(out: Stdout, s: &[u8]) -> bool {
 fn show_executed(out: Stdout, s: &[u8]) -> bool {
     let found = read_executed(s);
     let answer = found.answer;
-    if is_done(answer) {
+    if answer.is_ok() {
         let m = found.body;
         let token = m.token;
         say_head(out, b"Executed ", m.stamp, token);
@@ -155,7 +155,7 @@ fn show_executed(out: Stdout, s: &[u8]) -> bool {
 fn show_broken_trade(out: Stdout, s: &[u8]) -> bool {
     let found = read_broken_trade(s);
     let answer = found.answer;
-    if is_done(answer) {
+    if answer.is_ok() {
         let m = found.body;
         let token = m.token;
         say_head(out, b"Broken Trade ", m.stamp, token);
@@ -169,7 +169,7 @@ fn show_broken_trade(out: Stdout, s: &[u8]) -> bool {
 fn show_rejected(out: Stdout, s: &[u8]) -> bool {
     let found = read_rejected(s);
     let answer = found.answer;
-    if is_done(answer) {
+    if answer.is_ok() {
         let m = found.body;
         let token = m.token;
         say_head(out, b"Rejected ", m.stamp, token);
@@ -182,7 +182,7 @@ fn show_rejected(out: Stdout, s: &[u8]) -> bool {
 fn show_cancel_pending(out: Stdout, s: &[u8]) -> bool {
     let found = read_cancel_pending(s);
     let answer = found.answer;
-    if is_done(answer) {
+    if answer.is_ok() {
         let m = found.body;
         let token = m.token;
         say_head(out, b"Cancel Pending ", m.stamp, token);
@@ -194,7 +194,7 @@ fn show_cancel_pending(out: Stdout, s: &[u8]) -> bool {
 fn show_cancel_reject(out: Stdout, s: &[u8]) -> bool {
     let found = read_cancel_reject(s);
     let answer = found.answer;
-    if is_done(answer) {
+    if answer.is_ok() {
         let m = found.body;
         let token = m.token;
         say_head(out, b"Cancel Reject ", m.stamp, token);
@@ -206,7 +206,7 @@ fn show_cancel_reject(out: Stdout, s: &[u8]) -> bool {
 fn show_priority_update(out: Stdout, s: &[u8]) -> bool {
     let found = read_priority_update(s);
     let answer = found.answer;
-    if is_done(answer) {
+    if answer.is_ok() {
         let m = found.body;
         let token = m.token;
         say_head(out, b"Priority Update ", m.stamp, token);
@@ -221,7 +221,7 @@ fn show_priority_update(out: Stdout, s: &[u8]) -> bool {
 fn show_modified(out: Stdout, s: &[u8]) -> bool {
     let found = read_modified(s);
     let answer = found.answer;
-    if is_done(answer) {
+    if answer.is_ok() {
         let m = found.body;
         let token = m.token;
         say_head(out, b"Modified ", m.stamp, token);

@@ -1,7 +1,7 @@
 // A table: whether it is sound and what it keeps of its live orders, the day, a line for each firm, and one for each used record.
 use crate::records::show_record;
 use crate::words::{end_line, say, say_firm, say_number, say_refused, say_stamp};
-use answers::{Answer, is_done};
+use answers::Answer;
 use header::firms::{MOST_FIRMS, firm_at, firm_blocked};
 use header::{BEFORE, CLOSED, HEADER_SIZE, Header, OPEN};
 use octets::byte_at;
@@ -18,7 +18,7 @@ const LONGEST_TABLE: usize = 64_164;
 pub(crate) fn show_table(out: Stdout, table: &[u8]) -> bool {
     let tally = status(table);
     let answer = tally.answer;
-    if is_done(answer) {
+    if answer.is_ok() {
         return show_tally(out, table, tally)
             && show_day(out, header(table))
             && show_firms(out, header(table))

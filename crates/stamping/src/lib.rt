@@ -7,7 +7,7 @@ ghost use Rattle.octets.specs.Bytes.{put, digits};
 ghost use Rattle.answers.specs.Answer.{Done};
 ghost use Rattle.stamping.specs.Stamping.{heard, kind_for, body_for, stamp_answer, stamp_after};
 
-use answers::{Answer, Refusal, is_done};
+use answers::{Answer, Refusal};
 use octets::{put_be64, put_byte, put_bytes};
 use purge::mass_cancel::judge_mass_cancel;
 use purge::order_entry::{DISABLE, ENABLE, judge_order_entry};
@@ -20,7 +20,7 @@ pub fn stamped(purge: bool, stamp: u64, message: &[u8], entry: &mut [u8]) -> Ans
     ensures { (result ≡ stamp_answer purge stamp message.now entry.old) × (entry.new ≡ stamp_after purge stamp message.now entry.old) }
 {
     let answer = heard(purge, message);
-    if is_done(answer) {
+    if answer.is_ok() {
         return made(purge, stamp, message, entry);
     }
     answer

@@ -1,6 +1,7 @@
-// Where a symbol stands in a list that was judged, found by halving.
-ghost use Rattle.std.specs.Prelude.{◌≡◌, true, ◌+◌, ◌*◌, ◌<◌, ◌≤◌, leb, length};
+// A list that was judged, and where a symbol stands in it, found by halving.
+ghost use Rattle.std.specs.Prelude.{◌≡◌, true, ◌+◌, ◌*◌, ◌<◌, ◌≤◌, leb, length, MatchOption};
 ghost use Rattle.octets.specs.Choice.{pick};
+ghost use Rattle.wire.specs.Legal.{Bytes};
 ghost use Rattle.stocks.specs.Limits.{symbol_size, place_size};
 ghost use Rattle.stocks.specs.Ranks.{rank_at, LastNotAbove};
 ghost use Rattle.stocks.specs.Stocks.{list_good, places_in, place_of, standing_in};
@@ -11,62 +12,88 @@ use crate::standing::Standing;
 // So many halvings bring 2,000 places down to one. Always as many: a loop of a known length has no branch that depends on the list.
 const HALVINGS: usize = 11;
 
-// The base after a halving: half a size on where the place there is not above the symbol.
-fn moved(list: &[u8], symbol: u64, base: usize, half: usize) -> usize
-    requires { place_size * (base + half) + symbol_size ≤ length list.now }
-    ensures { result ≡ pick (leb (rank_at list.now (base + half)) symbol) (base + half) base }
-{
-    let middle = base + half;
-    if rank_at(list, middle) <= symbol {
-        return middle;
-    }
-    base
+// Bytes that are a right list: what is asked of them needs no judging again.
+#[derive(Clone, Copy)]
+pub struct Listed<'a> {
+    bytes: &'a [u8],
+    ghost are_bytes: { Bytes bytes.now },
+    ghost good: { list_good bytes.now ≡ true },
 }
 
-// The last of the first n places that is not above the symbol; the first place where all are above it.
-fn last_not_above(list: &[u8], symbol: u64, n: usize) -> usize
-    requires { (list_good list.now ≡ true) × ((0 < n) × (n ≡ places_in list.now)) }
-    ensures { LastNotAbove list.now symbol n result }
-{
-    let mut base: usize = 0;
-    let mut size: usize = n;
-    let mut left: usize = HALVINGS;
-    while 0 < left {
-        let half = size / 2;
-        base = moved(list, symbol, base, half);
-        size = size - half;
-        left = left - 1;
+#[tactic(auto, unfolding(crate::specs::Stocks::places_in))]
+impl<'a> Listed<'a> {
+    // For bytes that were judged already.
+    pub fn of(bytes: &'a [u8]) -> Listed<'a>
+        requires { list_good bytes.now ≡ true }
+        ensures { result.bytes.now ≡ bytes.now }
+    {
+        Listed { bytes }
     }
-    base
-}
 
-// The symbol's place; the number of places where none has it.
-pub(crate) fn place_of(list: &[u8], symbol: [u8; 8]) -> usize
-    requires { list_good list.now ≡ true }
-    ensures { result ≡ place_of list.now symbol }
-{
-    let n = list.len() / PLACE_SIZE;
-    if n == 0 {
-        return n;
+    fn places(&self) -> usize
+        ensures { result ≡ places_in self.now.bytes.now }
+    {
+        self.bytes.len() / PLACE_SIZE
     }
-    let wanted = rank(&symbol);
-    let i = last_not_above(list, wanted, n);
-    if rank_at(list, i) == wanted {
-        return i;
+
+    // The base after a halving: half a size on where the place there is not above the symbol.
+    fn moved(&self, symbol: u64, base: usize, half: usize) -> usize
+        requires { base + half < places_in self.now.bytes.now }
+        ensures { result ≡ pick (leb (rank_at self.now.bytes.now (base + half)) symbol) (base + half) base }
+    {
+        let middle = base + half;
+        if rank_at(self.bytes, middle) <= symbol {
+            middle
+        } else {
+            base
+        }
     }
-    n
+
+    // The last place that is not above the symbol; the first where all are above it.
+    fn last_not_above(&self, symbol: u64) -> usize
+        requires { 0 < places_in self.now.bytes.now }
+        ensures { LastNotAbove self.now.bytes.now symbol (places_in self.now.bytes.now) result }
+    {
+        let mut base = 0;
+        let mut size = self.places();
+        for _ in 0..HALVINGS {
+            let half = size / 2;
+            base = self.moved(symbol, base, half);
+            size -= half;
+        }
+        base
+    }
+
+    // The symbol's place, where one has it.
+    pub(crate) fn place_of(&self, symbol: [u8; 8]) -> Option<usize>
+        ensures { MatchOption result (place_of self.now.bytes.now symbol ≡ places_in self.now.bytes.now) (λ i. (i ≡ place_of self.now.bytes.now symbol) × (i < places_in self.now.bytes.now)) }
+    {
+        if self.places() == 0 {
+            return None;
+        }
+        let wanted = rank(symbol);
+        let i = self.last_not_above(wanted);
+        if rank_at(self.bytes, i) == wanted {
+            Some(i)
+        } else {
+            None
+        }
+    }
+
+    pub fn standing(&self, symbol: [u8; 8]) -> Standing
+        ensures { result ≡ standing_in self.now.bytes.now symbol }
+    {
+        match self.place_of(symbol) {
+            Some(i) if self.bytes[PLACE_SIZE * i + SYMBOL_SIZE] == b'H' => Standing::Halted,
+            Some(_) => Standing::Trading,
+            None => Standing::Unlisted,
+        }
+    }
 }
 
 pub fn standing(list: &[u8], symbol: [u8; 8]) -> Standing
     requires { list_good list.now ≡ true }
     ensures { result ≡ standing_in list.now symbol }
 {
-    let i = place_of(list, symbol);
-    if i < list.len() / PLACE_SIZE {
-        if list[PLACE_SIZE * i + SYMBOL_SIZE] == b'H' {
-            return Standing::Halted;
-        }
-        return Standing::Trading;
-    }
-    Standing::Unlisted
+    Listed::of(list).standing(symbol)
 }

@@ -1,5 +1,5 @@
 // Whether a list is right. Nearly every list that is judged is, and has to be looked at to its end: so two places are looked at in a turn, and each
-// symbol is read once.
+// symbol is read once. One place a turn, by `chunks_exact`, takes a quarter longer, and the bar is one pass by hand (docs/BENCHMARKS.md).
 ghost use Rattle.std.specs.Prelude.{◌≡◌, ◌+◌, ◌*◌, ◌<◌, ◌≤◌, length};
 ghost use Rattle.octets.specs.Choice.{all_below, among};
 ghost use Rattle.wire.specs.Letters.{stock_states};
@@ -49,15 +49,10 @@ fn places_good(list: &[u8], n: usize) -> bool
     true
 }
 
+#[tactic(auto, unfolding(crate::specs::Stocks::list_good, crate::specs::Stocks::size_good, crate::specs::Stocks::places_in))]
 pub fn list_good(list: &[u8]) -> bool
     ensures { result ≡ list_good list.now }
 {
     let n = list.len() / PLACE_SIZE;
-    if (n <= MOST_PLACES) & (list.len() == PLACE_SIZE * n) {
-        if n == 0 {
-            return true;
-        }
-        return places_good(list, n);
-    }
-    false
+    list.is_empty() || (n <= MOST_PLACES && list.len() == PLACE_SIZE * n && places_good(list, n))
 }

@@ -5,7 +5,7 @@ ghost use Rattle.stocks.specs.Limits.{symbol_size, place_size};
 ghost use Rattle.wire.specs.Legal.{Bytes};
 ghost use Rattle.stocks.specs.Ranks.{rank_at};
 
-use octets::{bytes_at, number_at};
+use octets::bytes_at;
 
 // A place is a symbol and its state.
 pub(crate) const SYMBOL_SIZE: usize = 8;
@@ -13,12 +13,10 @@ pub(crate) const SYMBOL_SIZE: usize = 8;
 pub(crate) const PLACE_SIZE: usize = 9;
 
 // That these are bytes is said, too: of an array that a caller was handed its proof does not know it.
-pub(crate) fn rank(symbol: &[u8]) -> u64
-    requires { length symbol.now ≡ symbol_size }
-    ensures { (result ≡ number_of symbol.now) × Bytes symbol.now }
+pub(crate) fn rank(symbol: [u8; 8]) -> u64
+    ensures { (result ≡ number_of symbol) × Bytes symbol }
 {
-    let n = symbol.len();
-    number_at(symbol, 0, n)
+    u64::from_be_bytes(symbol)
 }
 
 // The eight bytes are copied out at once, since read one by one from the list they stay eight loads.
@@ -26,6 +24,5 @@ pub(crate) fn rank_at(list: &[u8], i: usize) -> u64
     requires { place_size * i + symbol_size ≤ length list.now }
     ensures { result ≡ rank_at list.now i }
 {
-    let symbol: [u8; 8] = bytes_at(list, PLACE_SIZE * i);
-    rank(&symbol)
+    rank(bytes_at(list, PLACE_SIZE * i))
 }

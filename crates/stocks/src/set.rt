@@ -2,17 +2,16 @@
 ghost use Rattle.std.specs.Prelude.{◌≡◌, true};
 ghost use Rattle.stocks.specs.Stocks.{list_good, with_state};
 
-use crate::find::place_of;
+use crate::find::Listed;
 use crate::places::{PLACE_SIZE, SYMBOL_SIZE};
-use octets::put_byte;
 
 // Where it is not listed no byte changes.
+#[tactic(auto, unfolding(crate::specs::Stocks::places_in))]
 pub fn set_state(list: &mut [u8], symbol: [u8; 8], state: u8)
     requires { list_good list.old ≡ true }
     ensures { list.new ≡ with_state list.old symbol state }
 {
-    let i = place_of(list, symbol);
-    if i < list.len() / PLACE_SIZE {
-        put_byte(list, PLACE_SIZE * i + SYMBOL_SIZE, state);
+    if let Some(i) = Listed::of(list).place_of(symbol) {
+        list[PLACE_SIZE * i + SYMBOL_SIZE] = state;
     }
 }

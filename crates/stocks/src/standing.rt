@@ -2,7 +2,7 @@
 ghost use Rattle.std.specs.Prelude.{◌≡◌};
 ghost use Rattle.stocks.specs.Standing.{is_listed, is_halted};
 
-#[derive(Clone, Copy)]
+#[derive(Clone, Copy, PartialEq, Eq)]
 pub enum Standing {
     Trading,
     Halted,
@@ -12,19 +12,11 @@ pub enum Standing {
 pub fn is_listed(standing: Standing) -> bool
     ensures { result ≡ is_listed standing }
 {
-    match standing {
-        Standing::Trading => true,
-        Standing::Halted => true,
-        Standing::Unlisted => false,
-    }
+    standing != Standing::Unlisted
 }
 
 pub fn is_halted(standing: Standing) -> bool
     ensures { result ≡ is_halted standing }
 {
-    match standing {
-        Standing::Trading => false,
-        Standing::Halted => true,
-        Standing::Unlisted => false,
-    }
+    standing == Standing::Halted
 }

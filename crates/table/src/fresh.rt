@@ -7,7 +7,7 @@ ghost use Rattle.table.specs.Fresh.{fresh_answer, fresh_table};
 
 use crate::places::store_header;
 use crate::sound::size_good;
-use answers::{Answer, Refusal, is_done, first_of};
+use answers::{Answer, Refusal, first_of};
 use header::settings::{Settings, fresh_header, settings_good};
 
 // 10 for a bad length, then 3 for bad settings.
@@ -33,7 +33,7 @@ pub fn fresh(table: &mut [u8], settings: Settings) -> Answer
     ensures { (result ≡ fresh_answer table.old settings) × (table.new ≡ fresh_table table.old settings) }
 {
     let answer = fresh_answer(table, settings);
-    if is_done(answer) {
+    if answer.is_ok() {
         begin(table, settings);
     }
     answer

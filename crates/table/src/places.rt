@@ -62,7 +62,7 @@ pub(crate) fn record_bytes(table: &[u8], i: usize) -> &[u8; RECORD_SIZE]
 pub(crate) fn bit_bytes(table: &[u8]) -> &[u8]
     ensures { result.now ≡ bit_bytes table.now }
 {
-    let place = least(HEADER_SIZE + RECORD_SIZE * records_in(table), table.len());
+    let place = (HEADER_SIZE + RECORD_SIZE * records_in(table)).min(table.len());
     &table[place..]
 }
 
@@ -80,7 +80,7 @@ pub fn used(table: &[u8]) -> usize
     if table.len() < HEADER_SIZE {
         return 0;
     }
-    least(octets::be32(table, 4) as usize, records_in(table))
+    (octets::be32(table, 4) as usize).min(records_in(table))
 }
 
 pub(crate) fn order_at(table: &[u8], i: usize) -> Order

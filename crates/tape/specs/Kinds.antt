@@ -158,25 +158,6 @@ kind_by b =
 unfoldable pub kind_of : List ℕ → Kind
 kind_of s = kind_by (get_or s 0 0)
 
--- where a kind stands in the table of lengths
-abbrev pub kind_place : Kind → ℕ
-kind_place Enters = 0
-kind_place Replaces = 1
-kind_place Cancels = 2
-kind_place Modifies = 3
-kind_place Executes = 4
-kind_place BookCancels = 5
-kind_place SelfMatches = 6
-kind_place Prioritises = 7
-kind_place TurnsLate = 8
-kind_place EndsCross = 9
-kind_place TellsDay = 10
-kind_place SetsStock = 11
-kind_place Purges = 12
-kind_place Disables = 13
-kind_place Enables = 14
-kind_place Unknown = 15
-
 -- the length that a kind's letter fixes; 0 for a byte that is no kind
 unfoldable pub entry_length : ℕ → ℕ
 entry_length letter = (layout_of (kind_by letter)).size

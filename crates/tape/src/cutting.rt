@@ -18,13 +18,14 @@ pub enum Cut {
 }
 
 // What stands at `at`. A tape that arrives in pieces is cut again at a Short place once more of it is there.
+#[tactic(auto, unfolding(crate::specs::Cutting::cut_at))]
 pub fn cut_at(tape: &[u8], at: usize) -> Cut
     ensures { result ≡ cut_at tape.now at }
 {
-    if tape.len() <= at {
+    let Some(letter) = tape.get(at) else {
         return Cut::End;
-    }
-    let length = entry_length(tape[at]);
+    };
+    let length = entry_length(*letter);
     if length == 0 {
         return Cut::Unknown;
     }

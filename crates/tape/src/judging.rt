@@ -15,17 +15,19 @@ use wire::places::{
 };
 
 // 2 for a kind or a length, 3 where there is a first bad place, with that place.
+#[tactic(auto, unfolding(crate::specs::Entries::entry_answer))]
 pub fn judge(entry: &[u8]) -> Answer
     ensures { result ≡ entry_answer entry.now }
 {
     let kind = kind_of(entry);
-    if well_formed(entry, kind) {
-        return unless_bad(first_bad(entry, kind));
+    if !well_formed(entry, kind) {
+        return Err(Refusal::Malformed);
     }
-    Err(Refusal::Malformed)
+    answer_for(first_bad(entry, kind), Ok(()))
 }
 
 // What is no kind has length 0, and no entry has.
+#[tactic(auto, unfolding(crate::specs::Entries::well_formed))]
 fn well_formed(entry: &[u8], kind: Kind) -> bool
     requires { kind ≡ kind_of entry.now }
     ensures { result ≡ well_formed entry.now }
@@ -72,14 +74,10 @@ fn behind_of(kind: Kind) -> Behind
         Kind::BookCancels => Behind::Reason(27),
         Kind::SelfMatches => Behind::Flag(35),
         Kind::Prioritises => Behind::Price,
-        Kind::TurnsLate => Behind::Token,
-        Kind::EndsCross => Behind::Token,
+        Kind::TurnsLate | Kind::EndsCross => Behind::Token,
         Kind::TellsDay => Behind::Event,
         Kind::SetsStock => Behind::State,
-        Kind::Purges => Behind::Nothing,
-        Kind::Disables => Behind::Nothing,
-        Kind::Enables => Behind::Nothing,
-        Kind::Unknown => Behind::Nothing,
+        Kind::Purges | Kind::Disables | Kind::Enables | Kind::Unknown => Behind::Nothing,
     }
 }
 

@@ -14,6 +14,7 @@ use wire::body::Body;
 use wire::shares::Removed;
 
 // Every body opens with a stamp.
+#[tactic(auto, unfolding(crate::specs::Entries::stamp_of))]
 pub fn stamp_of(entry: &[u8]) -> u64
     requires { 9 ≤ length entry.now }
     ensures { result ≡ stamp_of entry.now }
@@ -24,6 +25,7 @@ pub fn stamp_of(entry: &[u8]) -> u64
 // The kinds that name no token, s h w d n, are shorter than the others are to the end of their token.
 pub const TOKEN_END: usize = 23;
 
+#[tactic(auto, unfolding(crate::specs::Entries::names_order))]
 pub fn names_order(entry: &[u8]) -> bool
     ensures { result ≡ names_order entry.now }
 {
@@ -31,16 +33,15 @@ pub fn names_order(entry: &[u8]) -> bool
 }
 
 // A w names an order by its firm and symbol.
+#[tactic(auto, unfolding(crate::specs::Entries::purges))]
 pub fn purges(entry: &[u8]) -> bool
     ensures { result ≡ purges entry.now }
 {
-    if entry.len() == 0 {
-        return false;
-    }
-    entry[0] == b'w'
+    matches!(entry, [b'w', ..])
 }
 
 // The token that an entry names first: the order that it is about, and in O the new one.
+#[tactic(auto, unfolding(crate::specs::Entries::token_of))]
 pub fn token_of(entry: &[u8]) -> [u8; 14]
     requires { token_end ≤ length entry.now }
     ensures { result ≡ token_of entry.now }
@@ -48,6 +49,7 @@ pub fn token_of(entry: &[u8]) -> [u8; 14]
     bytes_at(entry, 9)
 }
 
+#[tactic(auto, unfolding(crate::specs::Entries::execution_of))]
 pub fn execution_of(entry: &[u8]) -> Execution
     requires { length entry.now ≡ 40 }
     ensures { result ≡ execution_of entry.now }
@@ -60,6 +62,7 @@ pub fn execution_of(entry: &[u8]) -> Execution
     }
 }
 
+#[tactic(auto, unfolding(crate::specs::Entries::book_cancel_of))]
 pub fn book_cancel_of(entry: &[u8]) -> BookCancel
     requires { length entry.now ≡ 28 }
     ensures { result ≡ book_cancel_of entry.now }
@@ -70,6 +73,7 @@ pub fn book_cancel_of(entry: &[u8]) -> BookCancel
     }
 }
 
+#[tactic(auto, unfolding(crate::specs::Entries::self_match_of))]
 pub fn self_match_of(entry: &[u8]) -> SelfMatch
     requires { length entry.now ≡ 36 }
     ensures { result ≡ self_match_of entry.now }
@@ -82,6 +86,7 @@ pub fn self_match_of(entry: &[u8]) -> SelfMatch
     }
 }
 
+#[tactic(auto, unfolding(crate::specs::Entries::priority_of))]
 pub fn priority_of(entry: &[u8]) -> Priority
     requires { length entry.now ≡ 27 }
     ensures { result ≡ priority_of entry.now }
@@ -91,6 +96,7 @@ pub fn priority_of(entry: &[u8]) -> Priority
     }
 }
 
+#[tactic(auto, unfolding(crate::specs::Entries::system_of))]
 pub fn system_of(entry: &[u8]) -> System
     requires { length entry.now ≡ 10 }
     ensures { result ≡ system_of entry.now }
@@ -100,6 +106,7 @@ pub fn system_of(entry: &[u8]) -> System
     }
 }
 
+#[tactic(auto, unfolding(crate::specs::Entries::stock_state_of))]
 pub fn stock_state_of(entry: &[u8]) -> StockState
     requires { length entry.now ≡ 18 }
     ensures { result ≡ stock_state_of entry.now }
@@ -110,6 +117,7 @@ pub fn stock_state_of(entry: &[u8]) -> StockState
     }
 }
 
+#[tactic(auto, unfolding(crate::specs::Entries::purge_of))]
 pub fn purge_of(entry: &[u8]) -> Purge
     requires { length entry.now ≡ 21 }
     ensures { result ≡ purge_of entry.now }
@@ -120,6 +128,7 @@ pub fn purge_of(entry: &[u8]) -> Purge
     }
 }
 
+#[tactic(auto, unfolding(crate::specs::Entries::blocking_of))]
 pub fn blocking_of(entry: &[u8]) -> Blocking
     requires { length entry.now ≡ 13 }
     ensures { result ≡ blocking_of entry.now }
@@ -130,6 +139,7 @@ pub fn blocking_of(entry: &[u8]) -> Blocking
 }
 
 // From its eighth byte on an entry of a client is the client's message, but for the type's byte, at which no parser looks.
+#[tactic(auto, unfolding(crate::specs::Entries::message_in))]
 fn message_in(entry: &[u8]) -> &[u8]
     requires { 8 ≤ length entry.now }
     ensures { (result.now ≡ message_in entry.now) × (length result.now + 8 ≡ length entry.now) }
@@ -137,6 +147,7 @@ fn message_in(entry: &[u8]) -> &[u8]
     &entry[8..]
 }
 
+#[tactic(auto, unfolding(crate::specs::Entries::enter_of))]
 pub fn enter_of(entry: &[u8]) -> EnterOrder
     requires { length entry.now ≡ 56 }
     ensures { result ≡ enter_of entry.now }
@@ -144,6 +155,7 @@ pub fn enter_of(entry: &[u8]) -> EnterOrder
     EnterOrder::parse(message_in(entry))
 }
 
+#[tactic(auto, unfolding(crate::specs::Entries::replace_of))]
 pub fn replace_of(entry: &[u8]) -> ReplaceOrder
     requires { length entry.now ≡ 55 }
     ensures { result ≡ replace_of entry.now }
@@ -151,6 +163,7 @@ pub fn replace_of(entry: &[u8]) -> ReplaceOrder
     ReplaceOrder::parse(message_in(entry))
 }
 
+#[tactic(auto, unfolding(crate::specs::Entries::cancel_of))]
 pub fn cancel_of(entry: &[u8]) -> CancelOrder
     requires { length entry.now ≡ 27 }
     ensures { result ≡ cancel_of entry.now }
@@ -158,6 +171,7 @@ pub fn cancel_of(entry: &[u8]) -> CancelOrder
     CancelOrder::parse(message_in(entry))
 }
 
+#[tactic(auto, unfolding(crate::specs::Entries::modify_of))]
 pub fn modify_of(entry: &[u8]) -> ModifyOrder
     requires { length entry.now ≡ 28 }
     ensures { result ≡ modify_of entry.now }

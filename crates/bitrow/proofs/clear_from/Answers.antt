@@ -8,7 +8,7 @@ pub returns-then-at-end : goal.returns-then-at-end
 returns-then-at-end c =
     let a = c.args in
     ap₂ ◌&&◌ c.none_from.ensures c.are_zero.ensures
-    ∙ clear-bytes a.bits.now a.n (λ k. (c.shared_slice_known-then-at-end-1.given k).fits) (omega arith)
+    ∙ clear-bytes a.bits.now a.n (λ k. (c.type_inv.bits k).fits) (omega arith)
 
 pub returns : goal.returns
 returns c =

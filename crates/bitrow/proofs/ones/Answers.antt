@@ -1,41 +1,21 @@
--- The loop's invariant: `n` counts the bits of the k bytes passed. So it is never more than the row has bits, and every sum fits. The measure is what
--- is left of the row. Assumes nothing.
-use Rattle.octets.proofs.Proving.{◌*◌, ◌+◌, ◌∙◌, ◌≡◌, ◌≤◌, ap, arith, get_or, length, refl, sym, ℕ}
+-- The bound: a row has fewer than 2 to the 61 bytes, of eight bits each. The sum over the bytes is the count of the row's bits. Assumes nothing.
+use Rattle.octets.proofs.Proving.{◌∙◌, ◌≡◌, arith, rules}
+use Rattle.std.proofs.lemmas.Iterator.{YieldsList-from_slice}
+use Rattle.std.proofs.lemmas.Iterator.Adapters.{fits_from_length, at_most_from_yields_List}
+use Rattle.std.specs.List.{sum_by}
 use lib.Count as Count
-use Rattle.octets.specs.Choice.{count_below}
-use Rattle.bitrow.specs.Row.{bit_at, ones_in}
-use Rattle.bitrow.proofs.Halves.{count_most}
-use Rattle.bitrow.proofs.Rows.{ones-next}
+use Rattle.bitrow.specs.Row.{ones_in}
+use Rattle.bitrow.proofs.Rows.{ones-all}
 use Rattle.bitrow.proofs.ones.Goals as goal
-use Rattle.bitrow.proofs.ones.Goals.{After-shared_slice_known-1}
 
--- what a turn comes to
-module _ (c : After-shared_slice_known-1) where
-  abbrev sum : ℕ
-  sum = c.loop-k.n + Count.ones (get_or c.args.bits.now c.loop-k.k 0)
-
-  counted : sum ≡ count_below (8 * (c.loop-k.k + 1)) (bit_at c.args.bits.now)
-  counted =
-      let xs = c.args.bits.now in
-      let l = c.loop-k in
-      ap (λ (m : ℕ). m + Count.ones (get_or xs l.k 0)) l.invariant.1 ∙ sym (ones-next xs l.k (c.shared_slice_known-1.given l.k).fits)
-
-  fits : sum ≤ 8 * (c.loop-k.k + 1)
-  fits = omega (arith, counted, count_most (bit_at c.args.bits.now) (8 * (c.loop-k.k + 1)))
-
-pub loop-k-init : goal.loop-k-init
-unfolding count_below
-loop-k-init c = (omega arith, refl)
-
-pub overflow_add-n : goal.overflow_add-n
-overflow_add-n c = omega (arith, fits c)
-
-pub loop-k-preserved : goal.loop-k-preserved
-loop-k-preserved c = (omega arith, counted c)
+pub sum-requires-clause-fits : goal.sum-requires-clause-fits
+sum-requires-clause-fits c =
+    fits_from_length _ _ 2_305_843_009_213_693_951 18_446_744_073_709_551_616
+    (at_most_from_yields_List (YieldsList-from_slice c.args.bits.now cc) (omega arith)) c.map.ensures.closure (omega arith)
+    (λ x r q k. search rules)
 
 pub returns : goal.returns
 unfolding ones_in
 returns c =
-    let xs = c.args.bits.now in
-    let e : c.loop-k.k ≡ length xs = omega arith in
-    c.loop-k.invariant.1 ∙ ap (λ (m : ℕ). count_below (8 * m) (bit_at xs)) e
+    let total : c.sum.result ≡ sum_by Count.ones c.args.bits.now = search rules in
+    total ∙ ones-all c.args.bits.now (λ k. (c.type_inv.bits k).fits)

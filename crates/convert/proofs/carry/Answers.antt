@@ -6,13 +6,7 @@ use Rattle.convert.proofs.carry.Goals as goal
 
 pub returns : goal.returns
 returns c =
-    let fourth = c in
-    let third = fourth in
-    let second = third in
-    let first = second in
-    let head = first in
-    let start = head in
-    let old = start.args.old.now in
-    let t = start.args.table.now in
-    carried-runs old t start.requires.0 start.requires.1 _ _ _ _ (first.put_bytes.ensures ∙ ap (λ (l : List ℕ). put t 0 l) head.renewed-head.ensures)
-    second.put_number.ensures third.put_bytes-2.ensures fourth.put_number-2.ensures
+    let old = c.args.old.now in
+    let t = c.args.table.now in
+    carried-runs old t c.requires.0 c.requires.1 _ _ _ _ (c.put_bytes.ensures ∙ ap (λ (l : List ℕ). put t 0 l) c.renewed-head.ensures)
+    c.put_number.ensures c.put_bytes-2.ensures c.put_number-2.ensures

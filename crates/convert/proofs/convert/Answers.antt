@@ -9,10 +9,9 @@ use Rattle.convert.proofs.convert.Goals as goal
 
 pub carry-requires : goal.carry-requires
 carry-requires c =
-    let asked = c in
-    let answer = asked.convert_answer-answer in
-    let a = asked.args in
-    room a.old.now (length a.table.now) (sym answer.ensures ∙ is-done answer.result (answered asked.is_done.ensures c.if-is_done.true))
+    let answer = c.convert_answer-answer in
+    let a = c.args in
+    room a.old.now (length a.table.now) (sym answer.ensures ∙ is-done answer.result (answered c.is_done.ensures c.if-is_done.true))
 
 pub store_orders-requires : goal.store_orders-requires
 unfolding old_used
@@ -21,14 +20,11 @@ store_orders-requires c = omega (arith, c.old_used.ensures)
 pub returns-then-is_done : goal.returns-then-is_done
 unfolding converted if_done
 returns-then-is_done c =
-    let stored = c in
-    let carry = stored in
-    let asked = carry in
-    let answer = asked.convert_answer-answer.ensures in
-    let old = asked.args.old.now in (
+    let answer = c.convert_answer-answer.ensures in
+    let old = c.args.old.now in (
       answer,
-      rw (← answer, ← asked.is_done.ensures, carry.if-is_done.true)
-          (stored.store_orders.ensures ∙ ap₂ (λ (n : ℕ) (t : List ℕ). with_orders old n t) stored.old_used.ensures carry.carry.ensures),
+      rw (← answer, ← c.is_done.ensures, c.if-is_done.true)
+          (c.store_orders.ensures ∙ ap₂ (λ (n : ℕ) (t : List ℕ). with_orders old n t) c.old_used.ensures c.carry.ensures),
     )
 
 pub returns-else-is_done : goal.returns-else-is_done

@@ -1,4 +1,4 @@
--- The loop's invariant: the first i orders are stored, and the table is as long as it was. The measure is what is left of n. Assumes nothing.
+-- A record of the old table is read, and stored in its place of the new one. Assumes nothing.
 use Rattle.octets.proofs.Proving.{List, ◌+◌, ◌∙◌, ◌≡◌, add-one, ap, arith, refl, sym, ℕ}
 use Rattle.table.specs.Table.{order_at, store_order}
 use Rattle.orders.specs.Order.{order_of}
@@ -15,22 +15,15 @@ order-next old t u i o stored read =
 
 pub loop-i-init : goal.loop-i-init
 unfolding with_orders
-loop-i-init c = (omega arith, refl, refl)
+loop-i-init c = refl
 
 pub record_at-requires : goal.record_at-requires
-record_at-requires c =
-    let start = c in
-    old-fits start.args.old.now c.loop-i.i (omega (arith, start.requires))
+record_at-requires c = old-fits c.args.old.now c.loop-i.i (omega (arith, c.requires))
 
 pub loop-i-preserved : goal.loop-i-preserved
 unfolding order_at
 loop-i-preserved c =
-    let stored = c in
-    let read = stored in
-    let l = read.loop-i in
-    let a = read.args in (
-      omega arith,
-      omega arith,
-      order-next a.old.now a.table.now _ l.i _ (stored.store_order.ensures ∙ ap (λ (t : List ℕ). store_order t l.i read.order_of.result) l.invariant.2)
-          (read.order_of.ensures ∙ ap order_of read.record_at.ensures),
-    )
+    let l = c.loop-i in
+    let a = c.args in
+    order-next a.old.now a.table.now _ l.i _ (c.store_order.ensures ∙ ap (λ (t : List ℕ). store_order t l.i c.order_of.result) l.invariant)
+    (c.order_of.ensures ∙ ap order_of c.record_at.ensures.0)

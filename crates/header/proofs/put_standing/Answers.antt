@@ -14,6 +14,6 @@ returns c =
     let p1 = p2 in
     let start = p1 in
     let put = puts-at standing_fields (standing_values start.args.h) start.args.s.now
-    (p1.put_be64.ensures then p2.put_be32.ensures then p3.put_bytes32.ensures then ends)
+    (p1.put_be64.ensures then p2.put_be32.ensures then p3.put_array.ensures then ends)
     16 60 refl (omega arith) in
     (put.0, omega (arith, put.1))

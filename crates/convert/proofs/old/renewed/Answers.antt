@@ -6,7 +6,6 @@ use Rattle.convert.proofs.old.renewed.Goals as goal
 pub returns : goal.returns
 unfolding renewed
 returns c =
-    let start = c in
-    let old = start.args.old.now in
+    let old = c.args.old.now in
     ap (λ (l : List ℕ). set l 2 1) c.copy_from_slice.ensures.after
-    ∙ set_split (take 60 old) 2 1 (omega (arith, length-take-le 60 old (omega (arith, start.requires))))
+    ∙ set_split (take 60 old) 2 1 (omega (arith, length-take-le 60 old (omega (arith, c.requires))))

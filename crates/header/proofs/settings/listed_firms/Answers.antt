@@ -12,8 +12,8 @@ pub loop-k-preserved : goal.loop-k-preserved
 loop-k-preserved c =
     let firms = c.args.firms in
     let l = c.loop-k in
-    let next = row_next firms l.k l.row _ (omega arith) (omega arith) l.invariant.1 l.invariant.2 c.put_bytes4.ensures.0 c.put_bytes4.ensures.1 in
-    (c.put_bytes4.auto.s ∙ l.invariant.0, next.0, next.1)
+    let next = row_next firms l.k l.row _ (omega arith) (omega arith) l.invariant.1 l.invariant.2 c.put_array.ensures.0 c.put_array.ensures.1 in
+    (c.put_array.auto.s ∙ l.invariant.0, next.0, next.1)
 
 pub returns : goal.returns
 returns c =

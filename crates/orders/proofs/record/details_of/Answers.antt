@@ -4,4 +4,4 @@ use Rattle.orders.proofs.record.details_of.Goals as goal
 
 pub returns : goal.returns
 unfolding order_of
-returns c = rw (c.kept_of.ensures, c.terms_of.ensures, c.be64.ensures, c.bytes14_at.ensures, c.byte_at.ensures)
+returns c = rw (c.kept_of.ensures, c.terms_of.ensures, c.be64.ensures, c.bytes_at.ensures, c.byte_at.ensures)

@@ -15,6 +15,6 @@ returns c =
     let p1 = p2 in
     let start = p1 in
     let put = puts-at ending_fields (ending_values start.args.flags start.args.details) start.args.s.now
-    (p1.put_be64.ensures then p2.put_byte.ensures then p3.put_bytes14.ensures then p4.put_byte-2.ensures then ends)
+    (p1.put_be64.ensures then p2.put_byte.ensures then p3.put_array.ensures then p4.put_byte-2.ensures then ends)
     56 80 refl (omega arith) in
     (put.0, omega (arith, put.1))

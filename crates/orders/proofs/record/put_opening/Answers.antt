@@ -17,6 +17,6 @@ returns c =
     let p1 = p2 in
     let start = p1 in
     let put = puts-at opening_fields (opening_values start.args.o) start.args.s.now
-    (p1.put_byte.ensures then p2.put_bytes14.ensures then p3.put_byte-2.ensures then p4.put_be32.ensures then p5.put_be32-2.ensures then p6.put_be32-3.ensures then ends)
+    (p1.put_byte.ensures then p2.put_array.ensures then p3.put_byte-2.ensures then p4.put_be32.ensures then p5.put_be32-2.ensures then p6.put_be32-3.ensures then ends)
     0 28 refl (omega arith) in
     (put.0, omega (arith, put.1))

@@ -7,4 +7,4 @@ use Rattle.stocks.proofs.places.rank_at.Goals as goal
 
 pub returns : goal.returns
 unfolding rank_at symbol_at
-returns c = c.rank.ensures.0 ∙ ap number_of c.bytes_at-symbol.ensures
+returns c = c.rank.ensures.0 ∙ ap number_of c.bytes_at.ensures

@@ -1,22 +1,24 @@
 -- The symbol's place, and the one byte put there. Assumes nothing.
-use Rattle.octets.proofs.Proving.{List, ◌∙◌, ap, arith, rules, ℕ}
+use Rattle.octets.proofs.Proving.{List, [], ◌<◌, ◌≡◌, ◌∙◌, ◌∷◌, add-one, ap, arith, length, refl, set, set_split, ℕ}
 use Rattle.octets.specs.Bytes.{put}
-use Rattle.octets.proofs.Laws.{digits-byte}
-use Rattle.stocks.specs.Stocks.{places_in, state_place}
+use Rattle.stocks.specs.Stocks.{places_in, state_place, place_of}
 use Rattle.stocks.proofs.Told.{set_there, set-nowhere}
 use Rattle.stocks.proofs.set.set_state.Goals as goal
 
-pub returns-then-i-list : goal.returns-then-i-list
+pub returns-in-Some : goal.returns-in-Some
 unfolding places_in
-returns-then-i-list c =
+returns-in-Some c =
     let a = c.args in
-    let i = c.place_of-i.result in
-    c.put_byte.ensures
-    ∙ ap (λ (ys : List ℕ). put a.list.now (state_place i) ys) (digits-byte a.state (search rules))
-    ∙ set_there a.list.now a.symbol i c.place_of-i.ensures a.state (omega arith)
+    let l = a.list.now in
+    let i = c.in-Some.i in
+    let at = c.in-Some.ensures.0 ∙ ap (λ (k : List ℕ). place_of k a.symbol) c.of.ensures in
+    let within : i < places_in l = omega (arith, c.in-Some.ensures.1, ap length c.of.ensures) in
+    let one : set l (state_place i) a.state ≡ put l (state_place i) (a.state ∷ []) = rw (set_split l (state_place i) a.state (omega arith), add-one) in
+    one ∙ set_there l a.symbol i at a.state within
 
-pub returns-else-i-list : goal.returns-else-i-list
+pub returns-in_default : goal.returns-in_default
 unfolding places_in
-returns-else-i-list c =
+returns-in_default c =
     let a = c.args in
-    set-nowhere a.list.now a.symbol _ c.place_of-i.ensures a.state (omega arith)
+    let none : place_of a.list.now a.symbol ≡ places_in a.list.now = rw c.of.ensures at c.in_default.ensures in
+    set-nowhere a.list.now a.symbol _ refl a.state (omega (arith, none))

@@ -10,20 +10,18 @@ use Rattle.tape.proofs.judging.first_bad.Goals as goal
 
 pub bad_behind-requires : goal.bad_behind-requires
 bad_behind-requires c =
-    let p = c in
-    let s = p.args.entry.now in
-    let b = c.behind_of.ensures ∙ ap behind_of p.requires.0 in
-    rw b (rw (formed s p.requires.1).long (within (kind_of s)))
+    let s = c.args.entry.now in
+    let b = c.behind_of.ensures ∙ ap behind_of c.requires.0 in
+    rw b (rw (formed s c.requires.1).long (within (kind_of s)))
 
 pub returns : goal.returns
 unfolding bad_place_of
 returns c =
-    let p = c in
-    let s = p.args.entry.now in
-    let b = c.behind_of.ensures ∙ ap behind_of p.requires.0 in
-    behind (stamp_at 1) (judged_fields (behind_of (kind_of s))) s c.or.ensures c.bad_stamp.ensures
+    let s = c.args.entry.now in
+    let b = c.behind_of.ensures ∙ ap behind_of c.requires.0 in
+    behind (stamp_at 1) (judged_fields (behind_of (kind_of s))) s (omega arith) c.earlier.ensures c.bad_stamp.ensures
     (rw b at c.bad_behind.ensures)
-    ∙ sym (judged (kind_of s) s (formed s p.requires.1).known)
+    ∙ sym (ap place (judged (kind_of s) s (formed s c.requires.1).known))
 
 pub bad_stamp-requires : goal.bad_stamp-requires
 bad_stamp-requires c = stamp-fits _ c.requires.1
