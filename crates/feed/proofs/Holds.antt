@@ -9,9 +9,6 @@ begins-on a b c p q =
     let short : length a ≤ length b = omega (arith, sym (ap length p) ∙ length-take (length a) b) in
     sym (take-take (length a) (length b) c short) ∙ ap (take (length a)) q ∙ p
 
-pub begins-self : (a : List ℕ) → Begins a a
-begins-self a = take_all (length a) a (omega arith)
-
 -- no more is held than there is
 pub unread-within : (buffer : List ℕ) (h : Held) → length (unread buffer h) ≤ length buffer
 unfolding unread
