@@ -2,15 +2,9 @@
 //
 // 1 is given to what clients send and 5 to what the engine tells; 6 is given to kinds that need neither record nor reference, which 8 is about.
 // No entry has both, so there the next neighbours stand: 4 before 5, 1 before 8, 7 before 8, 6 before 9.
-use crate::row::{Tally, shown};
-use std::rt::Stdout;
 
 // Columns: what it shows, the script, what should come of it.
-pub(crate) fn answers(to: Stdout, tally: Tally) -> Tally {
-    shown(
-        to,
-        tally,
-        b"\
+pub(crate) const ANSWERS: &str = "\
 10 before 11: table, ring of 79           b0 v9 R79 s                           answer 10, nothing changed
 11: ring of 79                            R79 s                                 answer 11, nothing changed
 11 before 2: ring of 79, kind unknown     R79 Z                                 answer 11, nothing changed
@@ -35,6 +29,4 @@ pub(crate) fn answers(to: Stdout, tally: Tally) -> Tally {
 8 before 9: table full, ring full         R80 s O500 B O500 k D O500            answer 8, nothing changed
 9: ring full                              R80 s O500 k e100                     answer 9, nothing changed
 0: room again                             R80 s O500 k e100 g e100              Executed 100, A live 500-100-0=400 for 99999, B free
-",
-    )
-}
+";

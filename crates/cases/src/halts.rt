@@ -1,13 +1,7 @@
 // The list of stocks and its halts (Ask 2): the letters of O and U, what goes on, the new entry, and the answers' order.
-use crate::row::{Tally, shown};
-use std::rt::Stdout;
 
 // Columns: what it shows, the script, what should come of it.
-pub(crate) fn halts(to: Stdout, tally: Tally) -> Tally {
-    shown(
-        to,
-        tally,
-        b"\
+pub(crate) const HALTS: &str = "\
 S: ABC not listed                         s L O500                              Rejected S, A rejected, B free
 H: ABC halted                             s h O500                              Rejected H, A rejected, B free, ABC halted
 S before H: stock, ABC halted             s h ?28 O500                          Rejected S, A rejected, B free, ABC halted
@@ -33,6 +27,4 @@ h: stamp and state: the stamp             ?17 ?1 h                              
 11 before 14: ring of 79, list            R79 J s                               answer 11, nothing changed
 14 before 2: list, kind unknown           J Z                                   answer 14, nothing changed
 14: list                                  J s                                   answer 14, nothing changed
-",
-    )
-}
+";

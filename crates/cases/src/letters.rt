@@ -1,14 +1,8 @@
 // The order of the reject letters, pair by pair (What each entry does, O): an Enter with a fault and the one behind it, and then with the fault
 // alone. A fault is a spoiled byte of its field.
-use crate::row::{Tally, shown};
-use std::rt::Stdout;
 
 // Columns: what it shows, the script, what should come of it.
-pub(crate) fn letters(to: Stdout, tally: Tally) -> Tally {
-    shown(
-        to,
-        tally,
-        b"\
+pub(crate) const LETTERS: &str = "\
 C before L: day not open, firm            ?44 O500                              Rejected C, A rejected, B free
 C: day not open                           O500                                  Rejected C, A rejected, B free
 L before S: firm, stock                   s ?44 ?28 O500                        Rejected L, A rejected, B free
@@ -24,6 +18,4 @@ X: price                                  s ?36 O500                            
 Z before N: shares, minimum               s ?24 ?51 O500                        Rejected Z, A rejected, B free
 Z: shares                                 s ?24 O500                            Rejected Z, A rejected, B free
 N: minimum                                s ?51 O500                            Rejected N, A rejected, B free
-",
-    )
-}
+";

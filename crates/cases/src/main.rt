@@ -5,6 +5,7 @@
 
 mod answers_order;
 mod asked;
+mod board;
 mod entries;
 mod errors;
 mod halts;
@@ -24,31 +25,30 @@ mod text;
 mod told;
 mod worked;
 
-use crate::answers_order::answers;
-use crate::errors::errors;
-use crate::halts::halts;
-use crate::houses::houses;
-use crate::letters::letters;
-use crate::olds::olds;
-use crate::places::places;
-use crate::purges::purges;
-use crate::row::{Tally, say, say_number};
-use crate::sizes::sizes;
-use crate::tallies::tallies;
-use crate::worked::worked;
+use crate::answers_order::ANSWERS;
+use crate::errors::ERRORS;
+use crate::halts::HALTS;
+use crate::houses::HOUSES;
+use crate::letters::LETTERS;
+use crate::olds::OLDS;
+use crate::places::PLACES;
+use crate::purges::PURGES;
+use crate::row::{Tally, shown};
+use crate::sizes::SIZES;
+use crate::tallies::TALLIES;
+use crate::worked::WORKED;
 
+// What standard output doesn't take is not said again.
 fn main(rt: HostRuntime) {
     let to = rt.stdout();
-    say(
-        to,
-        b"an order: token, state, liable-executed-self-matched=open, time in force\n",
+    let _ = println!(to;
+        "an order: token, state, liable-executed-self-matched=open, time in force"
     );
-    let none = Tally { tried: 0, agree: 0 };
-    let first = places(to, answers(to, errors(to, worked(to, none))));
-    let before = sizes(to, halts(to, houses(to, letters(to, first))));
-    let tally = olds(to, tallies(to, purges(to, before)));
-    say_number(to, tally.agree);
-    say(to, b" of ");
-    say_number(to, tally.tried);
-    say(to, b" did what they should\n");
+    let mut tally = Tally { tried: 0, agree: 0 };
+    for list in [
+        WORKED, ERRORS, ANSWERS, PLACES, LETTERS, HOUSES, HALTS, SIZES, PURGES, TALLIES, OLDS,
+    ] {
+        tally = shown(to, tally, list);
+    }
+    let _ = println!(to; "{} of {} did what they should", tally.agree, tally.tried);
 }

@@ -1,7 +1,7 @@
 // The table of two records in its old form, without bits, and what the converter makes of it.
 use crate::run::Last;
-use crate::text::{part, put, same};
-use answers::{Answer, Refusal, number, place};
+use crate::text::{part, put};
+use answers::{Answer, is_done, number, place};
 use convert::convert;
 
 // How long it is: the bits stood behind it.
@@ -18,10 +18,10 @@ pub(crate) fn take_back(table: &mut [u8]) {
 
 // The converter is lent so many bytes of the second buffer.
 fn rebuilt(old: &[u8], second: &mut [u8], n: usize) -> Answer {
-    if second.len() < n {
-        return Err(Refusal::NoRoom);
+    match second.get_mut(..n) {
+        Some(lent) => convert(old, lent),
+        None => Answer::NoRoom,
     }
-    convert(old, &mut second[0..n])
 }
 
 // With another answer than 0 the second buffer should be what it was.
@@ -30,8 +30,8 @@ fn outcome(answer: Answer, table: &[u8], second: &[u8]) -> Last {
         answer: number(answer),
         place: place(answer),
         before: 0,
-        changed: !same(second, &[255; SECOND]),
-        intact: same(part(table, 64, 144), part(second, 64, 144)),
+        changed: second != [255; SECOND].as_slice(),
+        intact: part(table, 64, 144) == part(second, 64, 144),
     }
 }
 

@@ -1,13 +1,7 @@
 // Old tables and the converter (Ask 6): what it makes of them, its answers in their order, and that a step takes no old table.
-use crate::row::{Tally, shown};
-use std::rt::Stdout;
 
 // Columns: what it shows, the script, what should come of it.
-pub(crate) fn olds(to: Stdout, tally: Tally) -> Tally {
-    shown(
-        to,
-        tally,
-        b"\
+pub(crate) const OLDS: &str = "\
 converted                                 s O500 e100 o i225 #                  nothing sent, A live 500-100-0=400 for 99999 intact, B free, in all 1 live, 400 open
 converted, two live                       s O500 B O300 o i225 #                nothing sent, A live 500-0-0=500 for 99999 intact, B live 300-0-0=300 for 99999, in all 2 live, 800 open
 converted, one dead, one rejected         s O500 X0 B O0 o i225 #               nothing sent, A dead 0-0-0=0 intact, B rejected, in all 0 live, 0 open
@@ -22,6 +16,4 @@ converted, nothing in it                  o i225 #                              
 bits are none of its bytes                s O500 o b224 v1 i225 #               nothing sent, A live 500-0-0=500 for 99999 intact, B free, in all 1 live, 500 open
 10 from a step: not converted             s O500 o E                            answer 10, nothing changed
 10 from a step, then converted            s O500 o E i225 E                     System Event E, A live 500-0-0=500 for 99999 intact, B free
-",
-    )
-}
+";

@@ -1,13 +1,7 @@
 // The place that an answer 3 tells (Ask 1): a spoiled byte in each judged field of each kind, two of them, and answers that tell none.
-use crate::row::{Tally, shown};
-use std::rt::Stdout;
 
 // Columns: what it shows, the script, what should come of it.
-pub(crate) fn places(to: Stdout, tally: Tally) -> Tally {
-    shown(
-        to,
-        tally,
-        b"\
+pub(crate) const PLACES: &str = "\
 O: stamp                                  ?1 O500                               answer 3 at 1, nothing changed
 O: stamp, told from its first byte        ?3 O500                               answer 3 at 1, nothing changed
 O: token, a character in the middle       ?14 O500                              answer 3 at 14, nothing changed
@@ -46,6 +40,4 @@ a bad stamp and a bad letter: the stamp   ?23 ?1 M500                           
 both tokens: the first                    ?30 ?15 U500                          answer 3 at 15, nothing changed
 2 tells no place: a byte short, bad side  ?23 <1 O500                           answer 2, nothing changed
 4 tells no place: too early               s @34199 O500                         answer 4, nothing changed
-",
-    )
-}
+";

@@ -1,13 +1,7 @@
 // The purge button (Ask 5): what w cancels, whom d and n block, the letter a, header byte 3, and the answers' order.
-use crate::row::{Tally, shown};
-use std::rt::Stdout;
 
 // Columns: what it shows, the script, what should come of it.
-pub(crate) fn purges(to: Stdout, tally: Tally) -> Tally {
-    shown(
-        to,
-        tally,
-        b"\
+pub(crate) const PURGES: &str = "\
 w: all that is open, reason U             s O500 e100 w                         Canceled 400, A dead 100-100-0=0, B free
 w: self-matched shares stay gone          s O500 e100 q50 w                     Canceled 350, A dead 150-100-50=0, B free
 w in that symbol                          s O500 w1                             Canceled 500, A dead 0-0-0=0, B free
@@ -51,6 +45,4 @@ d needs no room                           R80 s O500 k d                        
 3: n, stamp                               ?1 n                                  answer 3 at 1, nothing changed
 10: a bit past the firm count             b3 v2 s                               answer 10, nothing changed
 a bit of a listed firm                    b3 v1 s O500                          Rejected a, A rejected, B free, byte 3 is 1
-",
-    )
-}
+";

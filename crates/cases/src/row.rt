@@ -1,11 +1,12 @@
 // A row of a list of cases: what it shows, a script, and what should come of it. The first two columns are padded with spaces.
+use crate::board::Board;
 use crate::house::open;
-use crate::run::LONGEST;
-use crate::script::{STOCKS, TABLE_SIZE, play};
-use crate::text::{part, put_number, same, trimmed};
+use crate::script::play;
+use crate::text::{Text, part};
 use crate::told::told;
-use std::num::wrapping_add_u64;
+use std::io::Cursor;
 use std::rt::Stdout;
+use std::str::from_utf8;
 
 const SCRIPT_FROM: usize = 42;
 
@@ -18,74 +19,33 @@ pub struct Tally {
     pub agree: u64,
 }
 
-// What standard output doesn't take is not said again.
-pub(crate) fn say(to: Stdout, words: &[u8]) {
-    match to.write_all(words) {
-        Ok(()) => {}
-        Err(_) => {}
-    }
-}
-
-pub(crate) fn say_number(to: Stdout, n: u64) {
-    let mut digits = [0u8; 20];
-    let end = put_number(&mut digits, 0, n);
-    say(to, part(&digits, 0, end));
-}
-
-// Plays the script on a fresh table with the paper's settings, an empty ring and the stock ABC, which trades, and answers how many bytes of `out` say what came of it.
-fn done(script: &[u8], out: &mut [u8]) -> usize {
-    let mut table = [0u8; TABLE_SIZE];
-    let mut ring = [0u8; LONGEST];
-    let mut stocks = STOCKS;
-    open(&mut table, 1_000_000, 1);
-    let run = play(&mut table, &mut ring, &mut stocks, script);
-    let r = run.ring;
-    if r <= LONGEST {
-        return told(&table, &ring[0..r], &stocks, run, out);
-    }
-    0
+// Plays the script on a fresh table with the paper's settings, an empty ring and the stock ABC, which trades, and says what came of it.
+fn done(script: &str) -> Text {
+    let mut board = Board::new();
+    open(&mut board.table, 1_000_000, 1);
+    let run = play(&mut board, script);
+    let mut out = Cursor::new([0; 160]);
+    let _ = told(&board, run, &mut out);
+    out
 }
 
 // One line; whether what happened is what should.
-fn compared(to: Stdout, words: &[u8], should: &[u8], did: &[u8]) -> bool {
-    say(to, words);
-    say(to, b": should ");
-    say(to, should);
-    say(to, b"; did ");
-    say(to, did);
-    say(to, b"\n");
-    same(should, did)
-}
-
-fn tried(to: Stdout, row: &[u8]) -> bool {
-    let mut words = [0u8; 160];
-    let n = done(part(row, SCRIPT_FROM, SHOULD_FROM), &mut words);
-    compared(
-        to,
-        trimmed(part(row, 0, SCRIPT_FROM)),
-        part(row, SHOULD_FROM, row.len()),
-        part(&words, 0, n),
-    )
-}
-
-fn counted(tally: Tally, agrees: bool) -> Tally {
-    Tally {
-        tried: wrapping_add_u64(tally.tried, 1),
-        agree: wrapping_add_u64(tally.agree, agrees as u64),
-    }
+fn tried(to: Stdout, row: &str) -> bool {
+    let words = row.get(..SCRIPT_FROM).unwrap_or("").trim_end();
+    let script = row.get(SCRIPT_FROM..SHOULD_FROM).unwrap_or("");
+    let should = row.get(SHOULD_FROM..).unwrap_or("");
+    let out = done(script);
+    let did = from_utf8(part(out.get_ref(), 0, out.position() as usize)).unwrap_or("");
+    let _ = println!(to; "{words}: should {should}; did {did}");
+    should == did
 }
 
 // Each line of the list is a row.
-pub(crate) fn shown(to: Stdout, before: Tally, list: &[u8]) -> Tally {
-    let mut tally = before;
-    let mut from: usize = 0;
-    let mut i: usize = 0;
-    while i < list.len() {
-        if list[i] == b'\n' {
-            tally = counted(tally, tried(to, part(list, from, i)));
-            from = i + 1;
-        }
-        i += 1;
+pub(crate) fn shown(to: Stdout, mut tally: Tally, list: &str) -> Tally {
+    for row in list.lines() {
+        let agrees = tried(to, row);
+        tally.tried = tally.tried.wrapping_add(1);
+        tally.agree = tally.agree.wrapping_add(agrees as u64);
     }
     tally
 }

@@ -1,4 +1,5 @@
 // What a script has set so far, and what came of the last entry.
+use crate::board::LONGEST;
 use outbox::marks::Marks;
 
 // The answer and its place, how many bytes were held before, whether a byte of table, ring or list or a mark has changed, and whether the first record's 80 bytes
@@ -27,8 +28,8 @@ pub struct Run {
     // the first letter of the firm; a space for the blank one, which the purge port's entries have as ABCD
     pub firm: u8,
     // two places whose bytes are spoiled
-    pub spoiled: usize,
-    pub also: usize,
+    pub spoiled: Option<usize>,
+    pub also: Option<usize>,
     // in whole seconds
     pub stamp: u32,
     // how many bytes are cut off at the end
@@ -42,11 +43,6 @@ pub struct Run {
     pub last: Last,
 }
 
-pub const LONGEST: usize = 128;
-
-// A place past every entry.
-pub const NOWHERE: usize = 56;
-
 pub(crate) fn begun() -> Run {
     Run {
         marks: Marks { at: 0, held: 0 },
@@ -58,8 +54,8 @@ pub(crate) fn begun() -> Run {
         minimum: 0,
         cross: b'N',
         firm: b' ',
-        spoiled: NOWHERE,
-        also: NOWHERE,
+        spoiled: None,
+        also: None,
         stamp: 34_200,
         cut: 0,
         keeps: false,
@@ -75,89 +71,43 @@ pub(crate) fn begun() -> Run {
     }
 }
 
-// Whether a letter of a script sets something, and is no entry.
-pub(crate) fn sets(letter: u8) -> bool {
-    match letter {
-        b'A'
-        | b'B'
-        | b'D'
-        | b'!'
-        | b'='
-        | b'$'
-        | b't'
-        | b'C'
-        | b'@'
-        | b'<'
-        | b'k'
-        | b'R'
-        | b'm'
-        | b'W'
-        | b'b'
-        | b'#'
-        | b'?' => true,
-        _ => false,
-    }
-}
-
-pub(crate) fn set(before: Run, letter: u8, n: u32) -> Run {
-    let mut run = before;
-    match letter {
-        b'=' => {
-            run.twice = true;
-        }
-        b'$' => {
-            run.price = n;
-        }
-        b't' => {
-            run.time = n;
-        }
-        b'm' => {
-            run.minimum = n;
-        }
-        b'C' => {
-            run.cross = b'C';
-        }
-        b'W' => {
-            run.firm = (64 + n % 26) as u8;
-        }
-        b'?' => {
-            run.also = before.spoiled;
-            run.spoiled = n as usize;
-        }
-        b'@' => {
-            run.stamp = n;
-        }
-        b'<' => {
-            run.cut = n as usize;
-        }
-        b'k' => {
-            run.keeps = true;
-        }
-        b'R' => {
-            run.ring = n as usize;
-        }
-        b'b' => {
-            run.byte = n as usize;
-        }
-        b'#' => {
-            run.asks = true;
-        }
-        _ => {
-            run.name = letter;
-        }
-    }
-    run
-}
-
-pub(crate) fn marked(before: Run, marks: Marks) -> Run {
-    let mut run = before;
-    run.marks = marks;
-    run
-}
-
-pub(crate) fn answered(before: Run, marks: Marks, last: Last) -> Run {
-    let mut run = before;
-    run.marks = marks;
-    run.last = last;
-    run
+// What a letter of a script sets; `None` for one that is an entry.
+pub(crate) fn set(run: Run, letter: u8, n: u32) -> Option<Run> {
+    let run = match letter {
+        b'A' | b'B' | b'D' | b'!' => Run {
+            name: letter,
+            ..run
+        },
+        b'=' => Run { twice: true, ..run },
+        b'$' => Run { price: n, ..run },
+        b't' => Run { time: n, ..run },
+        b'm' => Run { minimum: n, ..run },
+        b'C' => Run { cross: b'C', ..run },
+        b'W' => Run {
+            firm: (64 + n % 26) as u8,
+            ..run
+        },
+        b'?' => Run {
+            also: run.spoiled,
+            spoiled: Some(n as usize),
+            ..run
+        },
+        b'@' => Run { stamp: n, ..run },
+        b'<' => Run {
+            cut: n as usize,
+            ..run
+        },
+        b'k' => Run { keeps: true, ..run },
+        b'R' => Run {
+            ring: n as usize,
+            ..run
+        },
+        b'b' => Run {
+            byte: n as usize,
+            ..run
+        },
+        b'#' => Run { asks: true, ..run },
+        _ => return None,
+    };
+    Some(run)
 }

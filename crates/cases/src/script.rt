@@ -18,33 +18,20 @@
 //
 // Every other letter is an entry of that kind with so many shares (E: the day ends; h: ABC is halted; y: it trades again; w1 and w2 are about ABC
 // and XYZ, w about all). Unless k was said the ring is emptied before it.
+use crate::board::Board;
 use crate::entries::{entry, size};
 use crate::house::open;
 use crate::older::{converted, take_back};
-use crate::run::{Last, Run, answered, begun, marked, set, sets};
-use crate::text::{part, put, same};
+use crate::run::{Last, Run, begun, set};
+use crate::text::{part, put};
 use answers::{Answer, number, place};
 use host::step::step;
 use outbox::marks::Marks;
 use outbox::read::read;
 use outbox::release::release;
 
-// One stock, which trades.
-pub const STOCKS: [u8; 9] = *b"ABC     T";
-
-// Two records, so that A and B fill the table.
-pub const TABLE_SIZE: usize = 225;
-
 // The reference that the next one is at when none is left: 10^18.
-const PAST_THE_LAST: [u8; 8] = [0x0d, 0xe0, 0xb6, 0xb3, 0xa7, 0x64, 0, 0];
-
-// What is carried from one character of a script to the next.
-#[derive(Clone, Copy)]
-struct Word {
-    run: Run,
-    letter: u8,
-    n: u32,
-}
+const PAST_THE_LAST: u64 = 1_000_000_000_000_000_000;
 
 // The run at the read place is read and given up. A message that wraps at the ring's end is two runs.
 fn given_up(ring: &[u8], marks: Marks) -> Marks {
@@ -52,169 +39,95 @@ fn given_up(ring: &[u8], marks: Marks) -> Marks {
     moved.marks
 }
 
-fn emptied(ring: &[u8], run: Run) -> Run {
-    let marks = run.marks;
-    marked(run, given_up(ring, given_up(ring, marks)))
+fn emptied(board: &Board, run: Run) -> Run {
+    let ring = part(&board.ring, 0, run.ring);
+    Run {
+        marks: given_up(ring, given_up(ring, run.marks)),
+        ..run
+    }
 }
 
-// Table, ring and list one after the other, to be held against what they are later.
-fn copied(table: &[u8], ring: &[u8], stocks: &[u8]) -> [u8; 362] {
-    let mut bytes = [0u8; 362];
-    let at = put(&mut bytes, 0, table);
-    let end = put(&mut bytes, at, ring);
-    put(&mut bytes, end, stocks);
-    bytes
-}
-
-// What came of an entry, from table, ring and list before and after it.
-fn last(answer: Answer, was: Marks, marks: Marks, before: [u8; 362], after: [u8; 362]) -> Last {
-    let unchanged = same(&before, &after) & (marks.at == was.at) & (marks.held == was.held);
+// What came of an entry, from the board and the marks before and after it.
+fn last(answer: Answer, was: Marks, marks: Marks, before: Board, after: Board) -> Last {
     Last {
         answer: number(answer),
         place: place(answer),
         before: was.held,
-        changed: !unchanged,
-        intact: same(part(&before, 64, 144), part(&after, 64, 144)),
+        changed: before != after || marks.at != was.at || marks.held != was.held,
+        intact: part(&before.table, 64, 144) == part(&after.table, 64, 144),
     }
 }
 
-fn offered(table: &mut [u8], ring: &mut [u8], stocks: &mut [u8], run: Run, entry: &[u8]) -> Run {
+fn offered(board: &mut Board, run: Run, entry: &[u8]) -> Run {
     let was = run.marks;
-    let before = copied(table, ring, stocks);
-    let stepped = step(table, ring, was, stocks, entry);
+    let before = *board;
+    let ring = &mut board.ring[..];
+    let n = run.ring.min(ring.len());
+    let stepped = step(
+        &mut board.table,
+        &mut ring[..n],
+        was,
+        &mut board.stocks,
+        entry,
+    );
     let marks = stepped.marks;
     let answer = stepped.answer;
-    let after = copied(table, ring, stocks);
-    answered(run, marks, last(answer, was, marks, before, after))
+    Run {
+        marks,
+        last: last(answer, was, marks, before, *board),
+        ..run
+    }
 }
 
-fn played(
-    table: &mut [u8],
-    ring: &mut [u8],
-    stocks: &mut [u8],
-    before: Run,
-    kind: u8,
-    n: u32,
-) -> Run {
-    let mut run = before;
-    if !before.keeps {
-        run = emptied(ring, before);
-    }
+fn played(board: &mut Board, before: Run, kind: u8, n: u32) -> Run {
+    let run = if before.keeps {
+        before
+    } else {
+        emptied(board, before)
+    };
     let bytes = entry(run, kind, n);
-    offered(table, ring, stocks, run, part(&bytes, 0, size(run, kind)))
+    offered(board, run, part(&bytes, 0, size(run, kind)))
 }
 
-// An answer of the converter stands where an entry's would.
-fn rebuilt(table: &mut [u8], run: Run, n: u32) -> Run {
-    let marks = run.marks;
-    answered(run, marks, converted(table, n as usize))
-}
-
-// What a script does to the table and the list beside its entries.
-fn prepared(table: &mut [u8], stocks: &mut [u8], at: usize, letter: u8, n: u32) {
+// What a script does to the table and the list beside its entries; whether it is that.
+fn prepared(board: &mut Board, at: usize, letter: u8, n: u32) -> bool {
     match letter {
-        b'L' => {
-            put(stocks, 0, b"ABD");
-        }
-        b'J' => {
-            put(stocks, 8, b"X");
-        }
-        b'v' => {
-            put(table, at, &[(n % 256) as u8]);
-        }
-        b'N' => {
-            put(table, 16, &PAST_THE_LAST);
-        }
-        b'o' => take_back(table),
-        b'F' => {
-            open(table, 1_000_000, n);
-        }
-        b'V' => {
-            open(table, n, 1);
-        }
-        _ => {}
+        b'L' => put(&mut board.stocks, 0, b"ABD"),
+        b'J' => put(&mut board.stocks, 8, b"X"),
+        b'v' => put(&mut board.table, at, &[(n % 256) as u8]),
+        b'N' => put(&mut board.table, 16, &PAST_THE_LAST.to_be_bytes()),
+        b'o' => take_back(&mut board.table),
+        b'F' => open(&mut board.table, 1_000_000, n),
+        b'V' => open(&mut board.table, n, 1),
+        _ => return false,
     }
+    true
 }
 
-fn prepares(letter: u8) -> bool {
-    match letter {
-        b' ' | b'v' | b'N' | b'o' | b'F' | b'V' | b'L' | b'J' => true,
-        _ => false,
-    }
-}
-
-fn acted(
-    table: &mut [u8],
-    ring: &mut [u8],
-    stocks: &mut [u8],
-    run: Run,
-    letter: u8,
-    n: u32,
-) -> Run {
-    if prepares(letter) {
-        prepared(table, stocks, run.byte, letter, n);
+fn acted(board: &mut Board, run: Run, letter: u8, n: u32) -> Run {
+    if prepared(board, run.byte, letter, n) {
         return run;
     }
-    if letter == b'g' {
-        return emptied(ring, run);
+    if let Some(set) = set(run, letter, n) {
+        return set;
     }
-    if letter == b'i' {
-        return rebuilt(table, emptied(ring, run), n);
-    }
-    if sets(letter) {
-        return set(run, letter, n);
-    }
-    played(table, ring, stocks, run, letter, n)
-}
-
-fn ended(table: &mut [u8], ring: &mut [u8], stocks: &mut [u8], word: Word) -> Word {
-    let before = word.run;
-    let r = before.ring;
-    if ring.len() < r {
-        return word;
-    }
-    Word {
-        run: acted(table, &mut ring[0..r], stocks, before, word.letter, word.n),
-        letter: b' ',
-        n: 0,
+    match letter {
+        b'g' => emptied(board, run),
+        // An answer of the converter stands where an entry's would.
+        b'i' => Run {
+            last: converted(&mut board.table, n as usize),
+            ..emptied(board, run)
+        },
+        _ => played(board, run, letter, n),
     }
 }
 
-fn lettered(before: Word, c: u8) -> Word {
-    let mut word = before;
-    word.letter = c;
-    word
-}
-
-// No number of a script is longer than this leaves room for.
-fn numbered(before: Word, digit: u8) -> Word {
-    let mut word = before;
-    word.n = word.n % 400_000_000 * 10 + digit as u32;
-    word
-}
-
-fn followed(table: &mut [u8], ring: &mut [u8], stocks: &mut [u8], word: Word, c: u8) -> Word {
-    if c == b' ' {
-        return ended(table, ring, stocks, word);
+pub(crate) fn play(board: &mut Board, script: &str) -> Run {
+    let mut run = begun();
+    for word in script.split_ascii_whitespace() {
+        let letter = word.bytes().next().unwrap_or(b' ');
+        let n = word.get(1..).unwrap_or("").parse().unwrap_or(0);
+        run = acted(board, run, letter, n);
     }
-    if b'0' <= c {
-        if c <= b'9' {
-            return numbered(word, c - b'0');
-        }
-    }
-    lettered(word, c)
-}
-
-pub(crate) fn play(table: &mut [u8], ring: &mut [u8], stocks: &mut [u8], script: &[u8]) -> Run {
-    let mut word = Word {
-        run: begun(),
-        letter: b' ',
-        n: 0,
-    };
-    let mut i: usize = 0;
-    while i < script.len() {
-        word = followed(table, ring, stocks, word, script[i]);
-        i += 1;
-    }
-    word.run
+    run
 }

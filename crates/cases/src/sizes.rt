@@ -1,14 +1,8 @@
 // What an intended size means after a self match (Ask 4): every side of it, that it limits what is executed, and that Replace and Modify count
 // self-matched shares all the same. After 500 entered, 100 executed and 50 self-matched 350 are open.
-use crate::row::{Tally, shown};
-use std::rt::Stdout;
 
 // Columns: what it shows, the script, what should come of it.
-pub(crate) fn sizes(to: Stdout, tally: Tally) -> Tally {
-    shown(
-        to,
-        tally,
-        b"\
+pub(crate) const SIZES: &str = "\
 X 0 after a self match                    s O500 e100 q50 X0                    Canceled 350, A dead 150-100-50=0, B free
 X one below executed: dead                s O500 e100 q50 X99                   Canceled 350, A dead 150-100-50=0, B free
 X at executed: dead                       s O500 e100 q50 X100                  Canceled 350, A dead 150-100-50=0, B free
@@ -33,6 +27,4 @@ U 300 counts self-matched shares          s O500 e100 q50 U300                  
 U 150 counts them: bad details            s O500 e100 q50 U150                  Canceled 350, A dead 150-100-50=0, B free
 M 300 counts them                         s O500 e100 q50 M300                  Modified 150, A live 300-100-50=150 for 99999, B free
 M 150 counts them: ignored                s O500 e100 q50 M150                  answer 1, nothing changed
-",
-    )
-}
+";

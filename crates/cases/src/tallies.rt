@@ -1,14 +1,8 @@
 // How many orders are live and how much is open of them (Ask 6): after every kind of entry that changes it, what a table answers whose bits, sum or
 // byte 2 are not right, and that the status call judges byte 2 alone. The bits of two records are byte 224; 500 is 1 and 244 in bytes 62 and 63.
-use crate::row::{Tally, shown};
-use std::rt::Stdout;
 
 // Columns: what it shows, the script, what should come of it.
-pub(crate) fn tallies(to: Stdout, tally: Tally) -> Tally {
-    shown(
-        to,
-        tally,
-        b"\
+pub(crate) const TALLIES: &str = "\
 nothing entered                           s #                                   System Event S, A free, B free, in all 0 live, 0 open
 accepted                                  s O500 #                              Accepted 500 at 10000 for 99999 by ABCD, A live 500-0-0=500 for 99999, B free, in all 1 live, 500 open
 two accepted                              s O500 B O300 #                       Accepted 300 at 10000 for 99999 by ABCD, A live 500-0-0=500 for 99999 intact, B live 300-0-0=300 for 99999, in all 2 live, 800 open
@@ -47,6 +41,4 @@ the day over: live all the same           s O500 E #                            
 status: judges no bit                     s O500 b224 v0 #                      Accepted 500 at 10000 for 99999 by ABCD, A live 500-0-0=500 for 99999, B free, in all 0 live, 500 open
 status: judges no sum                     s O500 b63 v245 #                     Accepted 500 at 10000 for 99999 by ABCD, A live 500-0-0=500 for 99999, B free, in all 1 live, 501 open
 status: byte 2 zero                       s O500 b2 v0 #                        Accepted 500 at 10000 for 99999 by ABCD, A live 500-0-0=500 for 99999, B free, status 10
-",
-    )
-}
+";

@@ -1,14 +1,8 @@
 // The paper's worked numbers (Worked numbers), by its own numbers, and a Replace's minimum on both sides of the new open. Numbers 1 to 8 come after
 // 500 entered, 100 executed.
-use crate::row::{Tally, shown};
-use std::rt::Stdout;
 
 // Columns: what it shows, the script, what should come of it.
-pub(crate) fn worked(to: Stdout, tally: Tally) -> Tally {
-    shown(
-        to,
-        tally,
-        b"\
+pub(crate) const WORKED: &str = "\
 1 Replace 500                             s O500 e100 U500                      Replaced 400, A dead 100-100-0=0, B live 500-100-0=400 for 99999
 2 Replace 600                             s O500 e100 U600                      Replaced 500, A dead 100-100-0=0, B live 600-100-0=500 for 99999
 3 Replace 100: Canceled, token free       s O500 e100 U100                      Canceled 400, A dead 100-100-0=0, B free
@@ -33,6 +27,4 @@ pub(crate) fn worked(to: Stdout, tally: Tally) -> Tally {
 15 a ring with 66 free                    R90 s $0 O500 k B $10000 O500         Accepted 500 at 10000 for 99999 by ABCD, A rejected intact, B live 500-0-0=500 for 99999, behind J
 U minimum 400 of the new open 400         s O500 e100 t0 m400 U500              Replaced 400, A dead 100-100-0=0, B live 500-100-0=400 for 0
 U minimum 401 of the new open 400         s O500 e100 t0 m401 U500              Canceled 400, A dead 100-100-0=0, B free
-",
-    )
-}
+";

@@ -22,11 +22,9 @@ pub const STOCKS: [u8; 9] = *b"ABC     T";
 pub fn settings() -> Settings
     ensures { result ≡ desk_settings }
 {
-    let threshold = Total(1_000_000);
-    let firms = [Firm { code: *b"ABCD" }; 8];
     Settings {
-        threshold,
-        firms,
+        threshold: Total(1_000_000),
+        firms: [Firm { code: *b"ABCD" }; 8],
         count: 1,
     }
 }

@@ -1,3 +1,2 @@
-pub mod Slides
 pub mod Holds
 pub mod Unique

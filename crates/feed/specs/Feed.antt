@@ -7,7 +7,6 @@ use Rattle.purge.specs.Purge.{requests}
 use Rattle.tape.specs.Kinds.{entry_length}
 pub use Rattle.feed.specs.declared.Feed.{Feed}
 pub use Rattle.feed.specs.declared.held.Held.{Held}
-pub use Rattle.feed.specs.declared.refill.Refilled.{Refilled}
 pub use Rattle.feed.specs.declared.pieces.Pieces.{Pieces}
 pub use Rattle.feed.specs.declared.pieces.Pieces.TheVariants.{Entries, Messages, Requests}
 
@@ -24,11 +23,6 @@ past h n = pick (leb h.at h.end) (pick (leb n (h.end - h.at)) (record { at = h.a
 -- the second begins with the first
 abbrev pub Begins : List ℕ → List ℕ → Type 0
 Begins before after = take (length before) after ≡ before
-
--- a read leaves what is held and brings so many bytes behind it
-pub record Refills (before : List ℕ) (h : Held) (after : List ℕ) (r : Refilled) : Type 0 where
-  pub kept : Begins (unread before h) (unread after r.held)
-  pub grown : length (unread after r.held) ≡ length (unread before h) + r.more
 
 -- ---- pieces
 

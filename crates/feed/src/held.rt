@@ -12,27 +12,16 @@ pub(crate) struct Held {
 pub(crate) fn unread(buffer: &[u8], held: Held) -> &[u8]
     ensures { result.now ≡ unread buffer.now held }
 {
-    let at = held.at;
-    let end = held.end;
-    if buffer.len() < end {
-        return &buffer[..0];
-    }
-    if end < at {
-        return &buffer[..0];
-    }
-    &buffer[at..end]
+    buffer.get(held.at..held.end).unwrap_or(&[])
 }
 
 // The first n of them were handed out.
 pub(crate) fn past(held: Held, n: usize) -> Held
     ensures { result ≡ past held n }
 {
-    let at = held.at;
-    let end = held.end;
-    if at <= end {
-        if n <= end - at {
-            return Held { at: at + n, end };
-        }
+    let left = held.end.saturating_sub(held.at).saturating_sub(n);
+    Held {
+        at: held.end - left,
+        ..held
     }
-    Held { at: end, end }
 }

@@ -63,31 +63,22 @@ fn behind(feed: Feed) -> Held
     past(held_by(feed), feed.len)
 }
 
-fn fewer(left: u64) -> u64
-    ensures { result ≡ left - 1 }
-{
-    if left == 0 { 0 } else { left - 1 }
-}
-
 // The piece at the front of what is held. Where there is no whole one, and the input will not complete it, it is all that is held, and the last.
 fn handed_out(pieces: Pieces, buffer: &[u8], held: Held, left: u64) -> Feed
     ensures { result ≡ handed_out pieces (unread buffer.now held) held left }
 {
     let bytes = unread(buffer, held);
     let n = whole(pieces, bytes);
-    if n == 0 {
-        return Feed {
-            at: held.at,
-            len: bytes.len(),
-            end: held.end,
-            left: 0,
-        };
-    }
+    let (len, left) = if n == 0 {
+        (bytes.len(), 0)
+    } else {
+        (n, left.saturating_sub(1))
+    };
     Feed {
         at: held.at,
-        len: n,
+        len,
         end: held.end,
-        left: fewer(left),
+        left,
     }
 }
 
@@ -104,10 +95,8 @@ pub fn again(feed: Feed) -> Feed
     ensures { (result ≡ sooner feed) × (result.left ≤ feed.left - 1) }
 {
     Feed {
-        at: feed.at,
-        len: feed.len,
-        end: feed.end,
-        left: fewer(feed.left),
+        left: feed.left.saturating_sub(1),
+        ..feed
     }
 }
 
@@ -115,12 +104,7 @@ pub fn again(feed: Feed) -> Feed
 pub fn over(feed: Feed) -> Feed
     ensures { (result ≡ ended feed) × (result.left ≡ 0) }
 {
-    Feed {
-        at: feed.at,
-        len: feed.len,
-        end: feed.end,
-        left: 0,
-    }
+    Feed { left: 0, ..feed }
 }
 
 // How many bytes are left over: those that are held from the last piece on, and all that the input still has. Nobody looks at them anymore,
@@ -135,8 +119,7 @@ pub fn rest<R: Read>(input: &mut R, buffer: &mut [u8], feed: Feed) -> u64
 fn held_count(buffer: &[u8], feed: Feed) -> u64
     ensures { result ≡ length (unread buffer.now (held_by feed)) }
 {
-    let bytes = unread(buffer, held_by(feed));
-    bytes.len() as u64
+    unread(buffer, held_by(feed)).len() as u64
 }
 
 // So many bytes, and as many as are read to the input's end.
@@ -146,12 +129,12 @@ fn read_on<R: Read>(input: &mut R, buffer: &mut [u8], count: u64) -> u64
     let mut total = count;
     loop {
         let more = read_some(input, buffer) as u64;
+        let Some(sum) = total.checked_add(more) else {
+            return total;
+        };
         if more == 0 {
             return total;
         }
-        if u64::MAX - total < more {
-            return total;
-        }
-        total += more;
+        total = sum;
     }
 }

@@ -14,7 +14,7 @@ pub enum Pieces {
     Requests,
 }
 
-// 0 for a letter that begins none.
+// 0 for a letter that begins none, as the three functions say it.
 fn length_by(pieces: Pieces, letter: u8) -> usize
     ensures { result ≡ length_by pieces letter }
 {
@@ -29,10 +29,10 @@ fn length_by(pieces: Pieces, letter: u8) -> usize
 pub(crate) fn whole(pieces: Pieces, bytes: &[u8]) -> usize
     ensures { result ≡ whole pieces bytes.now }
 {
-    if bytes.len() == 0 {
+    let [letter, ..] = bytes else {
         return 0;
-    }
-    let n = length_by(pieces, bytes[0]);
+    };
+    let n = length_by(pieces, *letter);
     if bytes.len() < n {
         return 0;
     }
@@ -43,8 +43,8 @@ pub(crate) fn whole(pieces: Pieces, bytes: &[u8]) -> usize
 pub(crate) fn waits(pieces: Pieces, bytes: &[u8]) -> bool
     ensures { result ≡ waits pieces bytes.now }
 {
-    if bytes.len() == 0 {
-        return true;
+    match bytes {
+        [] => true,
+        [letter, ..] => bytes.len() < length_by(pieces, *letter),
     }
-    bytes.len() < length_by(pieces, bytes[0])
 }

@@ -4,7 +4,7 @@ ghost use Rattle.listing.specs.Lines.{Shows, Says};
 ghost use Rattle.listing.specs.Drawing.{cell_count, first_place, is_held, is_read_place, cell, cells, drawing};
 
 use crate::lines::Shown;
-use crate::text::{blank, named, said};
+use crate::text::blank;
 
 const CELLS: u8 = 64;
 
@@ -50,10 +50,8 @@ fn cells(size: u32, at: u32, held: u32) -> Shown
     ensures { Says result (cells size at held cell_count) × (result.len ≡ cell_count) }
 {
     let mut drawn = blank();
-    let mut k: u8 = 0;
-    while k < CELLS {
-        drawn = said(drawn, &[cell(size, at, held, k)]);
-        k += 1;
+    for k in 0..CELLS {
+        drawn = drawn.said(&[cell(size, at, held, k)]);
     }
     drawn
 }
@@ -62,7 +60,9 @@ fn cells(size: u32, at: u32, held: u32) -> Shown
 pub fn ring_line(size: u32, at: u32, held: u32) -> Shown
     ensures { Shows result (drawing size at held) }
 {
-    let placed = named(cells(size, at, held), b" at ", at as u64);
-    let counted = named(placed, b" held ", held as u64);
-    said(named(counted, b" of ", size as u64), b"\n")
+    cells(size, at, held)
+        .named(b" at ", at as u64)
+        .named(b" held ", held as u64)
+        .named(b" of ", size as u64)
+        .said(b"\n")
 }

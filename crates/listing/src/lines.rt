@@ -3,7 +3,7 @@ ghost use Rattle.std.specs.Prelude.{◌≡◌, ◌<◌};
 ghost use Rattle.io.specs.Digits.{hex_digit_ascii};
 ghost use Rattle.listing.specs.Lines.{line, type_shown, last_line, Shows, in_hex};
 
-use crate::text::{blank, named, said};
+use crate::text::blank;
 
 pub const FIRST_LINE: [u8; 23] = *b"entry kind answer sent\n";
 
@@ -37,25 +37,29 @@ fn in_hex(kind: u8) -> [u8; 4]
 pub fn line(number: u64, kind: u8, answer: u8, sent: u8) -> Shown
     ensures { Shows result (line number kind answer sent) }
 {
-    let numbered = named(blank(), b"", number);
-    let answered = named(numbered, &in_hex(kind), answer as u64);
-    said(answered, &[b' ', sent, b'\n'])
+    blank()
+        .named(b"", number)
+        .named(&in_hex(kind), answer as u64)
+        .said(&[b' ', sent, b'\n'])
 }
 
 // The type of what was sent, which is its first byte, or a dash.
+#[tactic(auto, unfolding(crate::specs::Lines::type_shown))]
 pub fn type_shown(sent: &[u8]) -> u8
     ensures { result ≡ type_shown sent.now }
 {
-    if sent.len() == 0 {
-        return b'-';
+    match sent {
+        [] => b'-',
+        [first, ..] => *first,
     }
-    sent[0]
 }
 
 // Entries answered 0, bytes sent.
 pub fn last_line(taken: u64, sent: u64) -> Shown
     ensures { Shows result (last_line taken sent) }
 {
-    let counted = named(blank(), b"taken ", taken);
-    said(named(counted, b" bytes ", sent), b"\n")
+    blank()
+        .named(b"taken ", taken)
+        .named(b" bytes ", sent)
+        .said(b"\n")
 }

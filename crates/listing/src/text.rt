@@ -13,32 +13,31 @@ pub(crate) fn blank() -> Shown
     }
 }
 
-pub(crate) fn said(before: Shown, words: &[u8]) -> Shown
-    requires { Fits before (length words.now) }
-    ensures { Adds before words.now result }
-{
-    let mut bytes = before.bytes;
-    let len = before.len;
-    octets::put_bytes(&mut bytes, len, words);
-    Shown {
-        bytes,
-        len: len + words.len(),
+impl Shown {
+    pub(crate) fn said(mut self, words: &[u8]) -> Shown
+        requires { Fits self (length words.now) }
+        ensures { Adds self words.now result }
+    {
+        let len = self.len;
+        octets::put_bytes(&mut self.bytes, len, words);
+        self.len += words.len();
+        self
     }
-}
 
-// The fewest digits that hold n.
-fn number_said(before: Shown, n: u64) -> Shown
-    requires { Fits before 20 }
-    ensures { Adds before (decimal n) result × (result.len ≤ before.len + 20) }
-{
-    let mut digits = [0u8; 20];
-    let k = io::decimal(n, &mut digits);
-    said(before, &digits[..k])
-}
+    // The fewest digits that hold n.
+    fn number_said(self, n: u64) -> Shown
+        requires { Fits self 20 }
+        ensures { Adds self (decimal n) result × (result.len ≤ self.len + 20) }
+    {
+        let mut digits = [0u8; 20];
+        let k = io::decimal(n, &mut digits);
+        self.said(&digits[..k])
+    }
 
-pub(crate) fn named(before: Shown, name: &[u8], n: u64) -> Shown
-    requires { Fits before (length name.now + 20) }
-    ensures { Adds before (name.now ++ decimal n) result × (result.len ≤ before.len + length name.now + 20) }
-{
-    number_said(said(before, name), n)
+    pub(crate) fn named(self, name: &[u8], n: u64) -> Shown
+        requires { Fits self (length name.now + 20) }
+        ensures { Adds self (name.now ++ decimal n) result × (result.len ≤ self.len + length name.now + 20) }
+    {
+        self.said(name).number_said(n)
+    }
 }

@@ -17,16 +17,15 @@ ghost use Rattle.words.specs.Words.{Allowed, Roomy};
 use crate::printing::{drain, draw, print, taken_from};
 use answers::number;
 use feed::pieces::Pieces;
-use feed::{Feed, again, begin, next, over, piece};
+use feed::{Feed, again, begin, next, piece};
 use host::step::step;
 use listing::lines::{FIRST_LINE, last_line, line, type_shown};
 use outbox::marks::{LONGEST_RING, Marks};
 use outbox::read::read;
 use outbox::release::release;
-use std::env::Env;
-use std::io::{Print, Stdout};
-use std::num::wrapping_add_u64;
-use words::{REFUSAL, Words, table_length, typed};
+use std::io;
+use std::io::Stdout;
+use words::{REFUSAL, Words, table_length, typed, word_at};
 
 // The answer to an entry whose message has no room.
 const BLOCKED: u8 = 9;
@@ -47,54 +46,10 @@ struct Tally {
     sent: u64,
     // the last offer was blocked
     blocked: bool,
-    // all lines were written
-    printed: bool,
 }
 
-#[derive(Clone, Copy)]
-struct Run {
-    feed: Feed,
-    tally: Tally,
-}
-
-fn begun() -> Run {
-    Run {
-        feed: begin(),
-        tally: Tally {
-            marks: Marks { at: 0, held: 0 },
-            entries: 0,
-            taken: 0,
-            sent: 0,
-            blocked: false,
-            printed: true,
-        },
-    }
-}
-
-// The line of an offer and, where that is asked for, the ring under it. The message stands behind what was held before.
-fn show(
-    out: Stdout,
-    ring: &[u8],
-    before: Marks,
-    after: Marks,
-    entries: u64,
-    kind: u8,
-    answer: u8,
-    draws: bool,
-) -> bool {
-    let message = release(ring.len(), after, before.held);
-    let sent = message.marks;
-    let printed = print(
-        out,
-        line(entries, kind, answer, type_shown(read(ring, sent))),
-    );
-    if draws & printed {
-        return draw(out, ring.len(), after);
-    }
-    printed
-}
-
-// One offer is played and shown, and the reader takes from the ring.
+// One offer is played, its line is shown and, where that is asked for, the ring under it, and the reader takes from the ring. The message stands
+// behind what was held before.
 fn play_entry(
     out: Stdout,
     table: &mut [u8],
@@ -103,43 +58,34 @@ fn play_entry(
     entry: &[u8],
     reader: Reader,
     tally: Tally,
-) -> Tally {
+) -> io::Result<Tally> {
     let before = tally.marks;
     let stepped = step(table, ring, before, stocks, entry);
     let after = stepped.marks;
-    let given = stepped.answer;
-    let answer = number(given);
-    let entries = wrapping_add_u64(tally.entries, !tally.blocked as u64);
-    let printed = show(
-        out,
-        ring,
-        before,
-        after,
-        entries,
-        first_byte(entry),
-        answer,
-        reader.draws,
-    );
-    Tally {
+    let answer = number(stepped.answer);
+    let entries = tally.entries.wrapping_add(!tally.blocked as u64);
+    let message = release(ring.len(), after, before.held);
+    let sent = type_shown(read(ring, message.marks));
+    print(out, line(entries, first_byte(entry), answer, sent))?;
+    if reader.draws {
+        draw(out, ring.len(), after)?;
+    }
+    Ok(Tally {
         marks: taken_from(ring.len(), after, reader.takes),
         entries,
-        taken: wrapping_add_u64(tally.taken, (answer == 0) as u64),
-        sent: wrapping_add_u64(tally.sent, grown(before, after)),
+        taken: tally.taken.wrapping_add((answer == 0) as u64),
+        sent: tally.sent.wrapping_add(grown(before, after)),
         blocked: answer == BLOCKED,
-        printed,
-    }
+    })
 }
 
 fn first_byte(entry: &[u8]) -> u8 {
-    if entry.len() == 0 { 0 } else { entry[0] }
+    entry.first().copied().unwrap_or(0)
 }
 
 // How many bytes a step put behind the held ones.
 fn grown(before: Marks, after: Marks) -> u64 {
-    if before.held <= after.held {
-        return (after.held - before.held) as u64;
-    }
-    0
+    after.held.saturating_sub(before.held) as u64
 }
 
 // The next entry, or the same once more where it was blocked.
@@ -152,35 +98,7 @@ fn asked(rt: HostRuntime, tape: &mut [u8], feed: Feed, blocked: bool) -> Feed
     next(&mut rt.stdin(), Pieces::Entries, tape, feed)
 }
 
-// One offer, where there is an entry. What is no whole entry is the last, and the host answers 2 to it.
-fn turn(
-    rt: HostRuntime,
-    table: &mut [u8],
-    ring: &mut [u8],
-    stocks: &mut [u8],
-    tape: &mut [u8],
-    reader: Reader,
-    run: Run,
-) -> Run
-    ensures { result.feed.left ≤ run.feed.left - 1 }
-{
-    let tally = run.tally;
-    let before = run.feed;
-    let feed = asked(rt, tape, before, tally.blocked);
-    let entry = piece(tape, feed);
-    if entry.len() == 0 {
-        return Run { feed, tally };
-    }
-    let tally = play_entry(rt.stdout(), table, ring, stocks, entry, reader, tally);
-    if tally.printed {
-        return Run { feed, tally };
-    }
-    Run {
-        feed: over(feed),
-        tally,
-    }
-}
-
+// An offer for each entry, and one more for each time that it was blocked. What is no whole entry is the last, and the host answers 2 to it.
 fn play(
     rt: HostRuntime,
     table: &mut [u8],
@@ -188,39 +106,43 @@ fn play(
     stocks: &mut [u8],
     tape: &mut [u8],
     reader: Reader,
-) -> Tally {
-    let mut run = begun();
-    while 0 < run.feed.left {
-        run = turn(rt, table, ring, stocks, tape, reader, run);
+) -> io::Result<Tally> {
+    let mut feed = begin();
+    let mut tally = Tally {
+        marks: Marks { at: 0, held: 0 },
+        entries: 0,
+        taken: 0,
+        sent: 0,
+        blocked: false,
+    };
+    while 0 < feed.left {
+        feed = asked(rt, tape, feed, tally.blocked);
+        let entry = piece(tape, feed);
+        if !entry.is_empty() {
+            tally = play_entry(rt.stdout(), table, ring, stocks, entry, reader, tally)?;
+        }
     }
-    run.tally
+    Ok(tally)
 }
 
-// A fresh day with its list of stocks, the tape, and what came of it.
-fn play_day(rt: HostRuntime, table: &mut [u8], ring: &mut [u8], tape: &mut [u8], reader: Reader)
+// A fresh day with its list of stocks, the tape, and what came of it: at the end the reader empties the ring, and the counts are told.
+fn play_day(
+    rt: HostRuntime,
+    table: &mut [u8],
+    ring: &mut [u8],
+    tape: &mut [u8],
+    reader: Reader,
+) -> io::Result<()>
     requires { 1 ≤ reader.takes }
 {
     let mut stocks = desk::STOCKS;
     desk::open(table);
-    let _ = rt.stdout().write_all(&FIRST_LINE);
-    let tally = play(rt, table, ring, &mut stocks, tape, reader);
-    finish(rt, ring.len(), tally, reader);
-}
-
-// The reader empties the ring, and the counts are told.
-fn finish(rt: HostRuntime, size: usize, tally: Tally, reader: Reader)
-    requires { 1 ≤ reader.takes }
-{
-    let marks = tally.marks;
-    if reader.draws & tally.printed {
-        drain(rt.stdout(), size, marks, reader.takes);
+    rt.stdout().write_all(&FIRST_LINE)?;
+    let tally = play(rt, table, ring, &mut stocks, tape, reader)?;
+    if reader.draws {
+        drain(rt.stdout(), ring.len(), tally.marks, reader.takes)?;
     }
-    if tally.printed & print(rt.stdout(), last_line(tally.taken, tally.sent)) {
-        return;
-    }
-    let _ = rt
-        .stderr()
-        .write_all(b"replay: standard output takes no more\n");
+    print(rt.stdout(), last_line(tally.taken, tally.sent))
 }
 
 // As much of the table and of the ring as the words ask for.
@@ -231,38 +153,36 @@ fn play_with(
     tape: &mut [u8],
     words: Words,
     draws: bool,
-)
+) -> io::Result<()>
     requires { Allowed words × Roomy table.old ring.old }
 {
     let size = table_length(words);
-    let length = words.ring;
     let reader = Reader {
         takes: words.release,
         draws,
     };
-    play_day(rt, &mut table[0..size], &mut ring[0..length], tape, reader);
-}
-
-// Whether the first word is `outbox`.
-fn asked_for_outbox(rt: HostRuntime) -> bool {
-    let mut word = [0u8; 16];
-    match rt.arg(1, &mut word) {
-        Ok(n) => &word[..n] == b"outbox".as_slice(),
-        Err(_) => false,
-    }
+    play_day(
+        rt,
+        &mut table[..size],
+        &mut ring[..words.ring],
+        tape,
+        reader,
+    )
 }
 
 fn main(rt: HostRuntime) {
-    let draws = asked_for_outbox(rt);
-    let heard = typed(&rt, draws);
-    if heard.good {
-        let words = heard.words;
-        let mut table = [0u8; desk::TABLE_SIZE];
-        let mut ring = [0u8; LONGEST_RING];
-        let mut tape = [0u8; 4_096];
-        play_with(rt, &mut table, &mut ring, &mut tape, words, draws);
+    let draws = word_at(&rt, 1, &mut [0; 16]) == Some(b"outbox");
+    let Some(words) = typed(&rt, draws) else {
+        let _ = rt.stderr().write_all(b"replay: outbox may stand first; ");
+        let _ = rt.stderr().write_all(&REFUSAL);
         return;
+    };
+    let mut table = [0u8; desk::TABLE_SIZE];
+    let mut ring = [0u8; LONGEST_RING];
+    let mut tape = [0u8; 4_096];
+    if play_with(rt, &mut table, &mut ring, &mut tape, words, draws).is_err() {
+        let _ = rt
+            .stderr()
+            .write_all(b"replay: standard output takes no more\n");
     }
-    let _ = rt.stderr().write_all(b"replay: outbox may stand first; ");
-    let _ = rt.stderr().write_all(&REFUSAL);
 }

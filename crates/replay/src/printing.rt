@@ -5,15 +5,13 @@ use listing::drawing::ring_line;
 use listing::lines::Shown;
 use outbox::marks::Marks;
 use outbox::release::release;
+use std::io;
 use std::io::{Print, Stdout};
 
-// Whether all of the line was written.
-pub(crate) fn print(out: Stdout, shown: Shown) -> bool
+pub(crate) fn print(out: Stdout, shown: Shown) -> io::Result<()>
     requires { shown.len ≤ length shown.bytes }
 {
-    let bytes = shown.bytes;
-    let len = shown.len;
-    out.write_all(&bytes[0..len]).is_ok()
+    out.write_all(&shown.bytes[..shown.len])
 }
 
 // No ring is as long: the drawing's numbers have 32 bits.
@@ -21,7 +19,7 @@ fn small(n: usize) -> u32 {
     (n % 4_294_967_296) as u32
 }
 
-pub(crate) fn draw(out: Stdout, size: usize, marks: Marks) -> bool {
+pub(crate) fn draw(out: Stdout, size: usize, marks: Marks) -> io::Result<()> {
     print(
         out,
         ring_line(small(size), small(marks.at), small(marks.held)),
@@ -30,20 +28,17 @@ pub(crate) fn draw(out: Stdout, size: usize, marks: Marks) -> bool {
 
 // The marks after a reader took as much as it takes, or all that is held.
 pub(crate) fn taken_from(size: usize, marks: Marks, takes: usize) -> Marks {
-    let moved = release(size, marks, takes.min(marks.held));
-    moved.marks
+    release(size, marks, octets::least(takes, marks.held)).marks
 }
 
 // The reader goes on alone until nothing is held, and the ring is drawn each time that it took, from the last offer on.
-pub(crate) fn drain(out: Stdout, size: usize, marks: Marks, takes: usize)
+pub(crate) fn drain(out: Stdout, size: usize, marks: Marks, takes: usize) -> io::Result<()>
     requires { 1 ≤ takes }
 {
     let mut now = marks;
-    let mut held = marks.held;
-    while 0 < held {
-        draw(out, size, now);
+    for _ in 0..marks.held.div_ceil(takes) {
+        draw(out, size, now)?;
         now = taken_from(size, now, takes);
-        held = held - takes.min(held);
     }
-    draw(out, size, now);
+    draw(out, size, now)
 }

@@ -1,7 +1,8 @@
 // Where an entry is bad: the field, the offset and the byte, in a line under the entry's own.
 ghost use Rattle.std.specs.Prelude.{◌<◌, length};
 
-use crate::words::{end_line, say, say_letter, say_number};
+use crate::line::{end_line, say, say_letter, say_number};
+use std::io;
 use std::io::Stdout;
 use tape::kinds::{Kind, kind_of};
 
@@ -13,11 +14,11 @@ const BEHIND: usize = 23;
 // Where a Replace's own token ends.
 const BEHIND_REPLACEMENT: usize = 37;
 
-pub(crate) fn point_at(out: Stdout, s: &[u8], at: usize) -> bool
+pub(crate) fn point_at(out: Stdout, s: &[u8], at: usize) -> io::Result<()>
     requires { at < length s.now }
 {
     say(out, b"  bad ");
-    say_field(out, kind_of(s), at);
+    say(out, field(kind_of(s), at));
     say_number(out, b" at ", at as u64);
     let b = octets::byte_at(s, at);
     say_number(out, b": byte ", b as u64);
@@ -26,47 +27,26 @@ pub(crate) fn point_at(out: Stdout, s: &[u8], at: usize) -> bool
 }
 
 // Every kind has a stamp, and every kind but s h w d n a token behind it; of w d n the stamp alone is judged.
-fn say_field(out: Stdout, kind: Kind, at: usize) {
-    if at < TOKEN {
-        say(out, b"stamp");
-        return;
-    }
-    if BEHIND <= at {
-        say_behind(out, kind, at);
-        return;
-    }
+fn field(kind: Kind, at: usize) -> &'static [u8] {
     match kind {
-        Kind::TellsDay => say(out, b"event"),
-        Kind::SetsStock => say(out, b"state"),
-        _ => say(out, b"token"),
+        _ if at < TOKEN => b"stamp",
+        _ if BEHIND <= at => behind(kind, at),
+        Kind::TellsDay => b"event",
+        Kind::SetsStock => b"state",
+        _ => b"token",
     }
 }
 
 // The judged fields behind the token, kind by kind.
-fn say_behind(out: Stdout, kind: Kind, at: usize) {
+fn behind(kind: Kind, at: usize) -> &'static [u8] {
     match kind {
-        Kind::Enters => say_side_or_sweep(out, at),
-        Kind::Replaces => say_replacement_or_sweep(out, at),
-        Kind::Modifies => say(out, b"side"),
-        Kind::Executes | Kind::SelfMatches => say(out, b"liquidity flag"),
-        Kind::BookCancels => say(out, b"reason"),
-        Kind::Prioritises => say(out, b"price"),
-        _ => say(out, b"field"),
-    }
-}
-
-fn say_side_or_sweep(out: Stdout, at: usize) {
-    if at == BEHIND {
-        say(out, b"side");
-    } else {
-        say(out, b"sweep");
-    }
-}
-
-fn say_replacement_or_sweep(out: Stdout, at: usize) {
-    if at < BEHIND_REPLACEMENT {
-        say(out, b"replacement token");
-    } else {
-        say(out, b"sweep");
+        Kind::Enters if at == BEHIND => b"side",
+        Kind::Replaces if at < BEHIND_REPLACEMENT => b"replacement token",
+        Kind::Enters | Kind::Replaces => b"sweep",
+        Kind::Modifies => b"side",
+        Kind::Executes | Kind::SelfMatches => b"liquidity flag",
+        Kind::BookCancels => b"reason",
+        Kind::Prioritises => b"price",
+        _ => b"field",
     }
 }

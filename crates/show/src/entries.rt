@@ -2,11 +2,12 @@
 ghost use Rattle.std.specs.Prelude.{◌≡◌, length};
 
 use crate::bad::point_at;
-use crate::words::{
+use crate::line::{
     end_line, say_firm, say_head, say_letter, say_number, say_price, say_refused, say_stamp,
     say_stock, say_token,
 };
-use answers::place;
+use answers::{is_done, place};
+use std::io;
 use std::io::Stdout;
 use tape::judging::judge;
 use tape::kinds::{Kind, kind_of};
@@ -16,59 +17,53 @@ use tape::reading::{
 };
 
 // By the kind. An entry that is bad in itself is shown by its answer, and with a bad field by a line that points at its first bad byte.
-pub(crate) fn show_entry(out: Stdout, s: &[u8]) -> bool {
+pub(crate) fn show_entry(out: Stdout, s: &[u8]) -> io::Result<()> {
     let answer = judge(s);
     if answer.is_ok() {
         return show_legal(out, s);
     }
-    let shown = say_refused(out, b"Entry", answer);
+    say_refused(out, b"Entry", answer)?;
     let at = place(answer);
-    if at == 0 {
-        return shown;
-    }
     // A told place lies in the entry; `point_at` asks for it, so it is asked for once more.
-    if s.len() <= at {
-        return shown;
+    if at == 0 || s.len() <= at {
+        return Ok(());
     }
     point_at(out, s, at)
 }
 
 // What was judged has its kind's length. The readers ask for it, so it is asked for once more.
-fn show_legal(out: Stdout, s: &[u8]) -> bool {
-    let kind = kind_of(s);
-    match kind {
-        Kind::Enters => (s.len() == 56) && show_enter(out, s),
-        Kind::Replaces => (s.len() == 55) && show_replace(out, s),
-        Kind::Cancels => (s.len() == 27) && show_cancel(out, s),
-        Kind::Modifies => (s.len() == 28) && show_modify(out, s),
-        Kind::Executes => (s.len() == 40) && show_execution(out, s),
-        Kind::BookCancels => (s.len() == 28) && show_book_cancel(out, s),
-        Kind::SelfMatches => (s.len() == 36) && show_self_match(out, s),
-        Kind::Prioritises => (s.len() == 27) && show_priority(out, s),
-        Kind::TurnsLate => (s.len() == 23) && show_late(out, s),
-        Kind::EndsCross => (s.len() == 23) && show_cross_done(out, s),
-        Kind::TellsDay => (s.len() == 10) && show_system(out, s),
-        Kind::SetsStock => (s.len() == 18) && show_stock_state(out, s),
-        Kind::Purges => (s.len() == 21) && show_purge(out, s),
-        Kind::Disables => (s.len() == 13) && show_blocking(out, b"Disable Order Entry ", s),
-        Kind::Enables => (s.len() == 13) && show_blocking(out, b"Enable Order Entry ", s),
-        Kind::Unknown => true,
+fn show_legal(out: Stdout, s: &[u8]) -> io::Result<()> {
+    match kind_of(s) {
+        Kind::Enters if s.len() == 56 => show_enter(out, s),
+        Kind::Replaces if s.len() == 55 => show_replace(out, s),
+        Kind::Cancels if s.len() == 27 => show_cancel(out, s),
+        Kind::Modifies if s.len() == 28 => show_modify(out, s),
+        Kind::Executes if s.len() == 40 => show_execution(out, s),
+        Kind::BookCancels if s.len() == 28 => show_book_cancel(out, s),
+        Kind::SelfMatches if s.len() == 36 => show_self_match(out, s),
+        Kind::Prioritises if s.len() == 27 => show_priority(out, s),
+        Kind::TurnsLate if s.len() == 23 => show_late(out, s),
+        Kind::EndsCross if s.len() == 23 => show_cross_done(out, s),
+        Kind::TellsDay if s.len() == 10 => show_system(out, s),
+        Kind::SetsStock if s.len() == 18 => show_stock_state(out, s),
+        Kind::Purges if s.len() == 21 => show_purge(out, s),
+        Kind::Disables if s.len() == 13 => show_blocking(out, b"Disable Order Entry ", s),
+        Kind::Enables if s.len() == 13 => show_blocking(out, b"Enable Order Entry ", s),
+        _ => Ok(()),
     }
 }
 
-fn show_enter(out: Stdout, s: &[u8]) -> bool
+fn show_enter(out: Stdout, s: &[u8]) -> io::Result<()>
     requires { length s.now ≡ 56 }
 {
     let m = enter_of(s);
-    let stock = m.stock;
-    let firm = m.firm;
     say_head(out, b"Enter Order ", stamp_of(s), token_of(s));
     say_letter(out, b" side ", m.side);
     say_number(out, b" shares ", m.shares.0 as u64);
-    say_stock(out, stock);
+    say_stock(out, m.stock);
     say_price(out, m.price);
     say_number(out, b" time in force ", m.time as u64);
-    say_firm(out, firm);
+    say_firm(out, m.firm);
     say_letter(out, b" display ", m.display);
     say_letter(out, b" capacity ", m.capacity);
     say_letter(out, b" sweep ", m.sweep);
@@ -77,13 +72,12 @@ fn show_enter(out: Stdout, s: &[u8]) -> bool
     end_line(out)
 }
 
-fn show_replace(out: Stdout, s: &[u8]) -> bool
+fn show_replace(out: Stdout, s: &[u8]) -> io::Result<()>
     requires { length s.now ≡ 55 }
 {
     let m = replace_of(s);
-    let replacement = m.replacement;
     say_head(out, b"Replace Order ", stamp_of(s), token_of(s));
-    say_token(out, b" replacement ", replacement);
+    say_token(out, b" replacement ", m.replacement);
     say_number(out, b" shares ", m.shares.0 as u64);
     say_price(out, m.price);
     say_number(out, b" time in force ", m.time as u64);
@@ -93,7 +87,7 @@ fn show_replace(out: Stdout, s: &[u8]) -> bool
     end_line(out)
 }
 
-fn show_cancel(out: Stdout, s: &[u8]) -> bool
+fn show_cancel(out: Stdout, s: &[u8]) -> io::Result<()>
     requires { length s.now ≡ 27 }
 {
     let m = cancel_of(s);
@@ -102,7 +96,7 @@ fn show_cancel(out: Stdout, s: &[u8]) -> bool
     end_line(out)
 }
 
-fn show_modify(out: Stdout, s: &[u8]) -> bool
+fn show_modify(out: Stdout, s: &[u8]) -> io::Result<()>
     requires { length s.now ≡ 28 }
 {
     let m = modify_of(s);
@@ -112,7 +106,7 @@ fn show_modify(out: Stdout, s: &[u8]) -> bool
     end_line(out)
 }
 
-fn show_execution(out: Stdout, s: &[u8]) -> bool
+fn show_execution(out: Stdout, s: &[u8]) -> io::Result<()>
     requires { length s.now ≡ 40 }
 {
     let m = execution_of(s);
@@ -124,7 +118,7 @@ fn show_execution(out: Stdout, s: &[u8]) -> bool
     end_line(out)
 }
 
-fn show_book_cancel(out: Stdout, s: &[u8]) -> bool
+fn show_book_cancel(out: Stdout, s: &[u8]) -> io::Result<()>
     requires { length s.now ≡ 28 }
 {
     let m = book_cancel_of(s);
@@ -134,7 +128,7 @@ fn show_book_cancel(out: Stdout, s: &[u8]) -> bool
     end_line(out)
 }
 
-fn show_self_match(out: Stdout, s: &[u8]) -> bool
+fn show_self_match(out: Stdout, s: &[u8]) -> io::Result<()>
     requires { length s.now ≡ 36 }
 {
     let m = self_match_of(s);
@@ -146,7 +140,7 @@ fn show_self_match(out: Stdout, s: &[u8]) -> bool
     end_line(out)
 }
 
-fn show_priority(out: Stdout, s: &[u8]) -> bool
+fn show_priority(out: Stdout, s: &[u8]) -> io::Result<()>
     requires { length s.now ≡ 27 }
 {
     let m = priority_of(s);
@@ -155,21 +149,21 @@ fn show_priority(out: Stdout, s: &[u8]) -> bool
     end_line(out)
 }
 
-fn show_late(out: Stdout, s: &[u8]) -> bool
+fn show_late(out: Stdout, s: &[u8]) -> io::Result<()>
     requires { length s.now ≡ 23 }
 {
     say_head(out, b"Late Begins ", stamp_of(s), token_of(s));
     end_line(out)
 }
 
-fn show_cross_done(out: Stdout, s: &[u8]) -> bool
+fn show_cross_done(out: Stdout, s: &[u8]) -> io::Result<()>
     requires { length s.now ≡ 23 }
 {
     say_head(out, b"Cross Done ", stamp_of(s), token_of(s));
     end_line(out)
 }
 
-fn show_system(out: Stdout, s: &[u8]) -> bool
+fn show_system(out: Stdout, s: &[u8]) -> io::Result<()>
     requires { length s.now ≡ 10 }
 {
     let m = system_of(s);
@@ -178,36 +172,32 @@ fn show_system(out: Stdout, s: &[u8]) -> bool
     end_line(out)
 }
 
-fn show_stock_state(out: Stdout, s: &[u8]) -> bool
+fn show_stock_state(out: Stdout, s: &[u8]) -> io::Result<()>
     requires { length s.now ≡ 18 }
 {
     let m = stock_state_of(s);
-    let symbol = m.symbol;
     say_stamp(out, b"Stock State ", stamp_of(s));
-    say_stock(out, symbol);
+    say_stock(out, m.symbol);
     say_letter(out, b" state ", m.state);
     end_line(out)
 }
 
-fn show_purge(out: Stdout, s: &[u8]) -> bool
+fn show_purge(out: Stdout, s: &[u8]) -> io::Result<()>
     requires { length s.now ≡ 21 }
 {
     let m = purge_of(s);
-    let firm = m.firm;
-    let symbol = m.symbol;
     say_stamp(out, b"Purge ", stamp_of(s));
-    say_firm(out, firm);
-    say_stock(out, symbol);
+    say_firm(out, m.firm);
+    say_stock(out, m.symbol);
     end_line(out)
 }
 
 // d and n differ in their names alone.
-fn show_blocking(out: Stdout, name: &[u8], s: &[u8]) -> bool
+fn show_blocking(out: Stdout, name: &[u8], s: &[u8]) -> io::Result<()>
     requires { length s.now ≡ 13 }
 {
     let m = blocking_of(s);
-    let firm = m.firm;
     say_stamp(out, name, stamp_of(s));
-    say_firm(out, firm);
+    say_firm(out, m.firm);
     end_line(out)
 }

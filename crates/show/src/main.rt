@@ -8,25 +8,26 @@
 
 mod bad;
 mod entries;
+mod line;
 mod records;
 mod requests;
 mod stream;
 mod tables;
-mod words;
 
-ghost use Rattle.std.specs.Prelude.{◌-◌, ◌≤◌, length};
+ghost use Rattle.std.specs.Prelude.{◌≤◌, length};
 
 use crate::entries::show_entry;
+use crate::line::{end_line, say_number};
 use crate::requests::show_request;
 use crate::stream::show_message;
 use crate::tables::show_table;
-use crate::words::{end_line, say_number};
 use feed::pieces::Pieces;
-use feed::{Feed, begin, next, over, piece, rest};
-use std::env::{Env, FillError};
-use std::io::{Print, Read, Stdin, Stdout};
+use feed::{begin, next, piece, rest};
+use std::io;
+use std::io::{Read, Stdin, Stdout};
+use words::word_at;
 
-fn show_piece(out: Stdout, pieces: Pieces, s: &[u8]) -> bool {
+fn show_piece(out: Stdout, pieces: Pieces, s: &[u8]) -> io::Result<()> {
     match pieces {
         Pieces::Entries => show_entry(out, s),
         Pieces::Messages => show_message(out, s),
@@ -34,106 +35,64 @@ fn show_piece(out: Stdout, pieces: Pieces, s: &[u8]) -> bool {
     }
 }
 
-// How many bytes are left over where no piece can follow.
+// How many bytes are left over where no piece can follow. It is the last line, and nobody is told where that is not taken.
 fn show_rest(out: Stdout, n: u64) {
     if 0 < n {
         say_number(out, b"left over: ", n);
-        end_line(out);
+        let _ = end_line(out);
     }
 }
 
-fn complain(rt: HostRuntime) {
-    let _ = rt
-        .stderr()
-        .write_all(b"show: standard output takes no more\n");
-}
-
-// One piece, or what is left over.
-fn turn(rt: HostRuntime, pieces: Pieces, buffer: &mut [u8], before: Feed) -> Feed
-    ensures { result.left ≤ before.left - 1 }
-{
-    let feed = next(&mut rt.stdin(), pieces, buffer, before);
-    if feed.left == 0 {
-        show_rest(rt.stdout(), rest(&mut rt.stdin(), buffer, feed));
-        return feed;
-    }
-    if show_piece(rt.stdout(), pieces, piece(buffer, feed)) {
-        return feed;
-    }
-    complain(rt);
-    over(feed)
-}
-
-fn show_all(rt: HostRuntime, pieces: Pieces, buffer: &mut [u8]) {
+// Piece by piece, and what is left over.
+fn show_all(rt: HostRuntime, pieces: Pieces) -> io::Result<()> {
+    let mut buffer = [0u8; 4_096];
     let mut feed = begin();
     while 0 < feed.left {
-        feed = turn(rt, pieces, buffer, feed);
+        feed = next(&mut rt.stdin(), pieces, &mut buffer, feed);
+        if 0 < feed.left {
+            show_piece(rt.stdout(), pieces, piece(&buffer, feed))?;
+        }
     }
+    show_rest(rt.stdout(), rest(&mut rt.stdin(), &mut buffer, feed));
+    Ok(())
 }
 
 // As much of the input as the buffer holds, or all of it where it ends before.
 fn read_full(mut input: Stdin, buffer: &mut [u8]) -> usize
     ensures { result ≤ length buffer.new }
 {
-    let mut done: usize = 0;
-    while done < buffer.len() {
-        match input.read(&mut buffer[done..]) {
-            Ok(0) => break,
-            Ok(n) => done += n,
-            Err(_) => break,
-        }
+    let mut done = 0;
+    while let Ok(n @ 1..) = input.read(&mut buffer[done..]) {
+        done += n;
     }
     done
 }
 
 // The buffer is longer than any table, so that an input that is too long is seen to be.
-fn show_whole(rt: HostRuntime) {
+fn show_whole(rt: HostRuntime) -> io::Result<()> {
     let mut buffer = [0u8; 65_536];
     let n = read_full(rt.stdin(), &mut buffer);
-    if show_table(rt.stdout(), &buffer[..n]) {
-        return;
-    }
-    complain(rt);
-}
-
-// Whether there is a word at place i of what was typed.
-fn is_typed(rt: HostRuntime, i: usize) -> bool {
-    let mut word = [0u8; 16];
-    match rt.arg(i, &mut word) {
-        Err(FillError::NotPresent) => false,
-        _ => true,
-    }
-}
-
-// Whether the first word is this one.
-fn asked_for(rt: HostRuntime, name: &[u8]) -> bool {
-    let mut word = [0u8; 16];
-    match rt.arg(1, &mut word) {
-        Ok(n) => &word[..n] == name,
-        Err(_) => false,
-    }
+    show_table(rt.stdout(), &buffer[..n])
 }
 
 fn main(rt: HostRuntime) {
-    let mut buffer = [0u8; 4_096];
-    if !is_typed(rt, 1) {
-        show_all(rt, Pieces::Messages, &mut buffer);
-        return;
+    let mut first = [0u8; 16];
+    let mut second = [0u8; 16];
+    let shown = match (word_at(&rt, 1, &mut first), word_at(&rt, 2, &mut second)) {
+        (None, _) => show_all(rt, Pieces::Messages),
+        (Some(b"tape"), None) => show_all(rt, Pieces::Entries),
+        (Some(b"purge"), None) => show_all(rt, Pieces::Requests),
+        (Some(b"table"), None) => show_whole(rt),
+        _ => {
+            let _ = rt
+                .stderr()
+                .write_all(b"show: the one word is tape, purge or table\n");
+            return;
+        }
+    };
+    if shown.is_err() {
+        let _ = rt
+            .stderr()
+            .write_all(b"show: standard output takes no more\n");
     }
-    let alone = !is_typed(rt, 2);
-    if asked_for(rt, b"tape") & alone {
-        show_all(rt, Pieces::Entries, &mut buffer);
-        return;
-    }
-    if asked_for(rt, b"purge") & alone {
-        show_all(rt, Pieces::Requests, &mut buffer);
-        return;
-    }
-    if asked_for(rt, b"table") & alone {
-        show_whole(rt);
-        return;
-    }
-    let _ = rt
-        .stderr()
-        .write_all(b"show: the one word is tape, purge or table\n");
 }

@@ -1,19 +1,18 @@
 // A used record of a table, as one line.
-use crate::words::{
+use crate::line::{
     end_line, say, say_firm, say_letter, say_number, say_price, say_stock, say_token,
 };
 use orders::counts::{Counts, open_shares};
 use orders::flags::Flag;
 use orders::order::{Details, Order, is};
+use std::io;
 use std::io::Stdout;
 
 // The place is counted from 0, as the bits are: the record begins at byte 64 + 80 times the place.
-pub(crate) fn show_record(out: Stdout, place: usize, o: Order) -> bool {
-    let token = o.token;
+pub(crate) fn show_record(out: Stdout, place: usize, o: Order) -> io::Result<()> {
     say_number(out, b"Record ", place as u64);
-    say_token(out, b" ", token);
-    let state = o.state;
-    match state {
+    say_token(out, b" ", o.token);
+    match o.state {
         b'L' => show_order(out, b" live", o),
         b'D' => show_order(out, b" dead", o),
         b'R' => show_state(out, b" rejected"),
@@ -22,18 +21,16 @@ pub(crate) fn show_record(out: Stdout, place: usize, o: Order) -> bool {
 }
 
 // A rejected token has a record with nothing else in it.
-fn show_state(out: Stdout, state: &[u8]) -> bool {
+fn show_state(out: Stdout, state: &[u8]) -> io::Result<()> {
     say(out, state);
     end_line(out)
 }
 
-fn show_order(out: Stdout, state: &[u8], o: Order) -> bool {
-    let shares = o.shares;
-    let details = o.details;
+fn show_order(out: Stdout, state: &[u8], o: Order) -> io::Result<()> {
     say(out, state);
     say_letter(out, b" side ", o.side);
-    say_shares(out, shares);
-    say_details(out, details);
+    say_shares(out, o.shares);
+    say_details(out, o.details);
     say_flags(out, o);
     end_line(out)
 }
@@ -46,12 +43,10 @@ fn say_shares(out: Stdout, shares: Counts) {
 }
 
 fn say_details(out: Stdout, details: Details) {
-    let stock = details.kept.stock;
-    let firm = details.kept.firm;
-    say_stock(out, stock);
+    say_stock(out, details.kept.stock);
     say_price(out, details.terms.price);
     say_number(out, b" time in force ", details.terms.time as u64);
-    say_firm(out, firm);
+    say_firm(out, details.kept.firm);
 }
 
 fn say_flags(out: Stdout, o: Order) {

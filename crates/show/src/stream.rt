@@ -1,5 +1,5 @@
 // A raw outbound stream, one line a message.
-use crate::words::{
+use crate::line::{
     end_line, say_firm, say_head, say_letter, say_number, say_price, say_refused, say_stamp,
     say_stock, say_token,
 };
@@ -17,12 +17,13 @@ use outbound::rejected::read_rejected;
 use outbound::replaced::read_replaced;
 use outbound::stated::Stated;
 use outbound::system_event::read_system_event;
+use std::io;
 use std::io::Stdout;
 
 // By the type. A feed hands out messages of these types alone.
-pub(crate) fn show_message(out: Stdout, s: &[u8]) -> bool {
+pub(crate) fn show_message(out: Stdout, s: &[u8]) -> io::Result<()> {
     if s.len() == 0 {
-        return true;
+        return Ok(());
     }
     let letter = s[0];
     match letter {
@@ -38,11 +39,11 @@ pub(crate) fn show_message(out: Stdout, s: &[u8]) -> bool {
         b'I' => show_cancel_reject(out, s),
         b'T' => show_priority_update(out, s),
         b'M' => show_modified(out, s),
-        _ => true,
+        _ => Ok(()),
     }
 }
 
-fn show_system_event(out: Stdout, s: &[u8]) -> bool {
+fn show_system_event(out: Stdout, s: &[u8]) -> io::Result<()> {
     let found = read_system_event(s);
     let answer = found.answer;
     if answer.is_ok() {
@@ -73,7 +74,7 @@ fn say_order(out: Stdout, order: Stated) {
     say_letter(out, b" state ", order.state);
 }
 
-fn show_accepted(out: Stdout, s: &[u8]) -> bool {
+fn show_accepted(out: Stdout, s: &[u8]) -> io::Result<()> {
     let found = read_accepted(s);
     let answer = found.answer;
     if answer.is_ok() {
@@ -88,7 +89,7 @@ fn show_accepted(out: Stdout, s: &[u8]) -> bool {
     say_refused(out, b"Accepted", answer)
 }
 
-fn show_replaced(out: Stdout, s: &[u8]) -> bool {
+fn show_replaced(out: Stdout, s: &[u8]) -> io::Result<()> {
     let found = read_replaced(s);
     let answer = found.answer;
     if answer.is_ok() {
@@ -105,7 +106,7 @@ fn show_replaced(out: Stdout, s: &[u8]) -> bool {
     say_refused(out, b"Replaced", answer)
 }
 
-fn show_canceled(out: Stdout, s: &[u8]) -> bool {
+fn show_canceled(out: Stdout, s: &[u8]) -> io::Result<()> {
     let found = read_canceled(s);
     let answer = found.answer;
     if answer.is_ok() {
@@ -119,7 +120,7 @@ fn show_canceled(out: Stdout, s: &[u8]) -> bool {
     say_refused(out, b"Canceled", answer)
 }
 
-fn show_aiq_cancelled(out: Stdout, s: &[u8]) -> bool {
+fn show_aiq_cancelled(out: Stdout, s: &[u8]) -> io::Result<()> {
     let found = read_aiq_cancelled(s);
     let answer = found.answer;
     if answer.is_ok() {
@@ -136,7 +137,7 @@ fn show_aiq_cancelled(out: Stdout, s: &[u8]) -> bool {
     say_refused(out, b"AIQ Cancelled", answer)
 }
 
-fn show_executed(out: Stdout, s: &[u8]) -> bool {
+fn show_executed(out: Stdout, s: &[u8]) -> io::Result<()> {
     let found = read_executed(s);
     let answer = found.answer;
     if answer.is_ok() {
@@ -152,7 +153,7 @@ fn show_executed(out: Stdout, s: &[u8]) -> bool {
     say_refused(out, b"Executed", answer)
 }
 
-fn show_broken_trade(out: Stdout, s: &[u8]) -> bool {
+fn show_broken_trade(out: Stdout, s: &[u8]) -> io::Result<()> {
     let found = read_broken_trade(s);
     let answer = found.answer;
     if answer.is_ok() {
@@ -166,7 +167,7 @@ fn show_broken_trade(out: Stdout, s: &[u8]) -> bool {
     say_refused(out, b"Broken Trade", answer)
 }
 
-fn show_rejected(out: Stdout, s: &[u8]) -> bool {
+fn show_rejected(out: Stdout, s: &[u8]) -> io::Result<()> {
     let found = read_rejected(s);
     let answer = found.answer;
     if answer.is_ok() {
@@ -179,7 +180,7 @@ fn show_rejected(out: Stdout, s: &[u8]) -> bool {
     say_refused(out, b"Rejected", answer)
 }
 
-fn show_cancel_pending(out: Stdout, s: &[u8]) -> bool {
+fn show_cancel_pending(out: Stdout, s: &[u8]) -> io::Result<()> {
     let found = read_cancel_pending(s);
     let answer = found.answer;
     if answer.is_ok() {
@@ -191,7 +192,7 @@ fn show_cancel_pending(out: Stdout, s: &[u8]) -> bool {
     say_refused(out, b"Cancel Pending", answer)
 }
 
-fn show_cancel_reject(out: Stdout, s: &[u8]) -> bool {
+fn show_cancel_reject(out: Stdout, s: &[u8]) -> io::Result<()> {
     let found = read_cancel_reject(s);
     let answer = found.answer;
     if answer.is_ok() {
@@ -203,7 +204,7 @@ fn show_cancel_reject(out: Stdout, s: &[u8]) -> bool {
     say_refused(out, b"Cancel Reject", answer)
 }
 
-fn show_priority_update(out: Stdout, s: &[u8]) -> bool {
+fn show_priority_update(out: Stdout, s: &[u8]) -> io::Result<()> {
     let found = read_priority_update(s);
     let answer = found.answer;
     if answer.is_ok() {
@@ -218,7 +219,7 @@ fn show_priority_update(out: Stdout, s: &[u8]) -> bool {
     say_refused(out, b"Priority Update", answer)
 }
 
-fn show_modified(out: Stdout, s: &[u8]) -> bool {
+fn show_modified(out: Stdout, s: &[u8]) -> io::Result<()> {
     let found = read_modified(s);
     let answer = found.answer;
     if answer.is_ok() {

@@ -1,10 +1,11 @@
 // A table: whether it is sound and what it keeps of its live orders, the day, a line for each firm, and one for each used record.
+use crate::line::{end_line, say, say_firm, say_number, say_refused, say_stamp};
 use crate::records::show_record;
-use crate::words::{end_line, say, say_firm, say_number, say_refused, say_stamp};
-use answers::Answer;
+use answers::{Answer, is_done};
 use header::firms::{MOST_FIRMS, firm_at, firm_blocked};
 use header::{BEFORE, CLOSED, HEADER_SIZE, Header, OPEN};
-use octets::byte_at;
+use octets::{byte_at, least};
+use std::io;
 use std::io::Stdout;
 use table::find::order_from;
 use table::places::{header, records_in, used};
@@ -15,21 +16,20 @@ use table::status::{Tally, status};
 const LONGEST_TABLE: usize = 64_164;
 
 // One that is not sound is shown as far as it goes, so that what is wrong in it can be seen.
-pub(crate) fn show_table(out: Stdout, table: &[u8]) -> bool {
+pub(crate) fn show_table(out: Stdout, table: &[u8]) -> io::Result<()> {
     let tally = status(table);
-    let answer = tally.answer;
-    if answer.is_ok() {
-        return show_tally(out, table, tally)
-            && show_day(out, header(table))
-            && show_firms(out, header(table))
-            && show_records(out, table);
+    if is_done(tally.answer) {
+        show_tally(out, table, tally)?;
+        show_day(out, header(table))?;
+        show_firms(out, header(table))?;
+        return show_records(out, table);
     }
-    show_refused(out, table, answer)
+    show_refused(out, table, tally.answer)
 }
 
 // By its answer, and by a line that says which of the two is no table's: the length, or the form in byte 2.
-fn show_refused(out: Stdout, table: &[u8], answer: Answer) -> bool {
-    say_refused(out, b"Table", answer);
+fn show_refused(out: Stdout, table: &[u8], answer: Answer) -> io::Result<()> {
+    say_refused(out, b"Table", answer)?;
     if size_good(table) & (HEADER_SIZE <= table.len()) {
         say_number(out, b"  bad form at 2: byte ", form(table) as u64);
     } else {
@@ -54,7 +54,7 @@ fn say_length(out: Stdout, n: usize) {
     }
 }
 
-fn show_tally(out: Stdout, table: &[u8], tally: Tally) -> bool {
+fn show_tally(out: Stdout, table: &[u8], tally: Tally) -> io::Result<()> {
     if sound(table) {
         say(out, b"Table sound");
     } else {
@@ -76,7 +76,7 @@ fn say_day(out: Stdout, day: u8) {
     }
 }
 
-fn show_day(out: Stdout, h: Header) -> bool {
+fn show_day(out: Stdout, h: Header) -> io::Result<()> {
     say_day(out, h.day);
     say_stamp(out, b" last stamp ", h.last);
     say_number(out, b" next reference ", h.reference);
@@ -84,7 +84,7 @@ fn show_day(out: Stdout, h: Header) -> bool {
     end_line(out)
 }
 
-fn show_firm(out: Stdout, h: Header, firm: [u8; 4]) -> bool {
+fn show_firm(out: Stdout, h: Header, firm: [u8; 4]) -> io::Result<()> {
     say(out, b"Listed");
     say_firm(out, firm);
     if firm_blocked(h, firm) {
@@ -93,29 +93,16 @@ fn show_firm(out: Stdout, h: Header, firm: [u8; 4]) -> bool {
     end_line(out)
 }
 
-fn show_firms(out: Stdout, h: Header) -> bool {
-    let firms = h.firms;
-    let n = (h.count as usize).min(MOST_FIRMS);
-    let mut k: usize = 0;
-    while k < n {
-        if show_firm(out, h, firm_at(firms, k)) {
-            k += 1;
-        } else {
-            return false;
-        }
+fn show_firms(out: Stdout, h: Header) -> io::Result<()> {
+    for k in 0..least(h.count as usize, MOST_FIRMS) {
+        show_firm(out, h, firm_at(h.firms, k))?;
     }
-    true
+    Ok(())
 }
 
-fn show_records(out: Stdout, table: &[u8]) -> bool {
-    let n = used(table);
-    let mut i: usize = 0;
-    while i < n {
-        if show_record(out, i, order_from(table, i)) {
-            i += 1;
-        } else {
-            return false;
-        }
+fn show_records(out: Stdout, table: &[u8]) -> io::Result<()> {
+    for i in 0..used(table) {
+        show_record(out, i, order_from(table, i))?;
     }
-    true
+    Ok(())
 }

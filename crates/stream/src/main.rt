@@ -13,67 +13,31 @@ ghost use Rattle.words.specs.Words.{Allowed, Roomy};
 
 use answers::number;
 use feed::pieces::Pieces;
-use feed::{Feed, again, begin, next, over, piece};
+use feed::{Feed, again, begin, next, piece};
 use host::step::step;
 use outbox::marks::{LONGEST_RING, Marks};
 use outbox::read::read;
 use outbox::release::release;
+use std::io;
 use std::io::{Print, Stdout};
 use words::{REFUSAL, Words, table_length, typed};
 
 // The answer to an entry whose message has no room.
 const BLOCKED: u8 = 9;
 
-// The marks after bytes were written, how many more the reader takes, and whether all went out.
-#[derive(Clone, Copy)]
-struct Sending {
-    marks: Marks,
-    takes: usize,
-    written: bool,
-}
-
-// What is carried from offer to offer.
-#[derive(Clone, Copy)]
-struct Run {
-    feed: Feed,
-    marks: Marks,
-    // the last offer was blocked
-    blocked: bool,
-    // all bytes were written
-    written: bool,
-}
-
-fn begun() -> Run {
-    Run {
-        feed: begin(),
-        marks: Marks { at: 0, held: 0 },
-        blocked: false,
-        written: true,
-    }
-}
-
-// The run at the read place, or as much of it as the reader takes, is written and given up.
-fn send_run(out: Stdout, ring: &[u8], marks: Marks, takes: usize) -> Sending {
+// The run at the read place, or as much of it as the reader takes, is written and given up. The marks afterwards, and how much more it takes.
+fn send_run(out: Stdout, ring: &[u8], marks: Marks, takes: usize) -> io::Result<(Marks, usize)> {
     let run = read(ring, marks);
-    let n = takes.min(run.len());
-    let written = out.write_all(&run[0..n]).is_ok();
-    let moved = release(ring.len(), marks, n);
-    let marks = moved.marks;
-    Sending {
-        marks,
-        takes: takes - n,
-        written,
-    }
+    let n = octets::least(takes, run.len());
+    out.write_all(&run[..n])?;
+    Ok((release(ring.len(), marks, n).marks, takes - n))
 }
 
 // What is held may go on at the ring's start, so it is two runs.
-fn send(out: Stdout, ring: &[u8], marks: Marks, takes: usize) -> Sending {
-    let first = send_run(out, ring, marks, takes);
-    if first.written {
-        let marks = first.marks;
-        return send_run(out, ring, marks, first.takes);
-    }
-    first
+fn send(out: Stdout, ring: &[u8], marks: Marks, takes: usize) -> io::Result<Marks> {
+    let (behind, left) = send_run(out, ring, marks, takes)?;
+    let (end, _) = send_run(out, ring, behind, left)?;
+    Ok(end)
 }
 
 // The next entry, or the same once more where it was blocked.
@@ -86,69 +50,8 @@ fn asked(rt: HostRuntime, tape: &mut [u8], feed: Feed, blocked: bool) -> Feed
     next(&mut rt.stdin(), Pieces::Entries, tape, feed)
 }
 
-// One offer, and the reader takes from the ring.
-fn offered(
-    out: Stdout,
-    table: &mut [u8],
-    ring: &mut [u8],
-    stocks: &mut [u8],
-    entry: &[u8],
-    marks: Marks,
-    takes: usize,
-    feed: Feed,
-) -> Run
-    ensures { result.feed.left ≤ feed.left }
-{
-    let stepped = step(table, ring, marks, stocks, entry);
-    let answer = stepped.answer;
-    let after = stepped.marks;
-    let sending = send(out, ring, after, takes);
-    let marks = sending.marks;
-    let blocked = number(answer) == BLOCKED;
-    let written = sending.written;
-    if written {
-        return Run {
-            feed,
-            marks,
-            blocked,
-            written,
-        };
-    }
-    Run {
-        feed: over(feed),
-        marks,
-        blocked,
-        written,
-    }
-}
-
-// One offer, where there is an entry. What is no whole entry is the last, and the host takes nothing of it.
-fn turn(
-    rt: HostRuntime,
-    table: &mut [u8],
-    ring: &mut [u8],
-    stocks: &mut [u8],
-    tape: &mut [u8],
-    takes: usize,
-    run: Run,
-) -> Run
-    ensures { result.feed.left ≤ run.feed.left - 1 }
-{
-    let before = run.feed;
-    let marks = run.marks;
-    let feed = asked(rt, tape, before, run.blocked);
-    let entry = piece(tape, feed);
-    if entry.len() == 0 {
-        return Run {
-            feed,
-            marks,
-            blocked: false,
-            written: run.written,
-        };
-    }
-    offered(rt.stdout(), table, ring, stocks, entry, marks, takes, feed)
-}
-
+// An offer for each entry, and one more for each time that it was blocked; after each the reader takes from the ring. What is no whole entry is the
+// last, and the host takes nothing of it.
 fn play(
     rt: HostRuntime,
     table: &mut [u8],
@@ -156,60 +59,69 @@ fn play(
     stocks: &mut [u8],
     tape: &mut [u8],
     takes: usize,
-) -> Run {
-    let mut run = begun();
-    while 0 < run.feed.left {
-        run = turn(rt, table, ring, stocks, tape, takes, run);
+) -> io::Result<Marks> {
+    let mut feed = begin();
+    let mut marks = Marks { at: 0, held: 0 };
+    let mut blocked = false;
+    while 0 < feed.left {
+        feed = asked(rt, tape, feed, blocked);
+        let entry = piece(tape, feed);
+        if !entry.is_empty() {
+            let stepped = step(table, ring, marks, stocks, entry);
+            blocked = number(stepped.answer) == BLOCKED;
+            marks = send(rt.stdout(), ring, stepped.marks, takes)?;
+        }
     }
-    run
+    Ok(marks)
 }
 
 // A fresh day with its list of stocks, and the tape; at the end the reader takes all that is held.
-fn play_day(rt: HostRuntime, table: &mut [u8], ring: &mut [u8], tape: &mut [u8], takes: usize) {
+fn play_day(
+    rt: HostRuntime,
+    table: &mut [u8],
+    ring: &mut [u8],
+    tape: &mut [u8],
+    takes: usize,
+) -> io::Result<()> {
     let mut stocks = desk::STOCKS;
     desk::open(table);
-    let run = play(rt, table, ring, &mut stocks, tape, takes);
-    finish(rt, ring, run);
-}
-
-fn finish(rt: HostRuntime, ring: &[u8], run: Run) {
-    if run.written {
-        let marks = run.marks;
-        let sending = send(rt.stdout(), ring, marks, LONGEST_RING);
-        if sending.written {
-            return;
-        }
-    }
-    let _ = rt
-        .stderr()
-        .write_all(b"stream: standard output takes no more\n");
+    let marks = play(rt, table, ring, &mut stocks, tape, takes)?;
+    send(rt.stdout(), ring, marks, LONGEST_RING)?;
+    Ok(())
 }
 
 // As much of the table and of the ring as the words ask for.
-fn play_with(rt: HostRuntime, table: &mut [u8], ring: &mut [u8], tape: &mut [u8], words: Words)
+fn play_with(
+    rt: HostRuntime,
+    table: &mut [u8],
+    ring: &mut [u8],
+    tape: &mut [u8],
+    words: Words,
+) -> io::Result<()>
     requires { Allowed words × Roomy table.old ring.old }
 {
     let size = table_length(words);
-    let length = words.ring;
     play_day(
         rt,
-        &mut table[0..size],
-        &mut ring[0..length],
+        &mut table[..size],
+        &mut ring[..words.ring],
         tape,
         words.release,
-    );
+    )
 }
 
 fn main(rt: HostRuntime) {
-    let heard = typed(&rt, false);
-    if heard.good {
-        let words = heard.words;
-        let mut table = [0u8; desk::TABLE_SIZE];
-        let mut ring = [0u8; LONGEST_RING];
-        let mut tape = [0u8; 4_096];
-        play_with(rt, &mut table, &mut ring, &mut tape, words);
+    let Some(words) = typed(&rt, false) else {
+        let _ = rt.stderr().write_all(b"stream: ");
+        let _ = rt.stderr().write_all(&REFUSAL);
         return;
+    };
+    let mut table = [0u8; desk::TABLE_SIZE];
+    let mut ring = [0u8; LONGEST_RING];
+    let mut tape = [0u8; 4_096];
+    if play_with(rt, &mut table, &mut ring, &mut tape, words).is_err() {
+        let _ = rt
+            .stderr()
+            .write_all(b"stream: standard output takes no more\n");
     }
-    let _ = rt.stderr().write_all(b"stream: ");
-    let _ = rt.stderr().write_all(&REFUSAL);
 }

@@ -6,7 +6,7 @@
 
 mod numbers;
 
-ghost use Rattle.std.specs.Prelude.{◌≡◌, ◌<◌, ◌≤◌, length};
+ghost use Rattle.std.specs.Prelude.{◌≡◌, ◌<◌, ◌≤◌, IfSome};
 ghost use Rattle.octets.specs.Bytes.{same};
 ghost use Rattle.table.specs.Table.{table_size};
 ghost use Rattle.words.specs.Words.{usual, longest_table, word_of, takes, with_word, heard, Allowed};
@@ -28,13 +28,6 @@ pub struct Words {
     // how many bytes the reader takes between two offers
     pub release: usize,
     pub records: usize,
-}
-
-// `good` says that every word so far was understood.
-#[derive(Clone, Copy)]
-pub struct Heard {
-    pub words: Words,
-    pub good: bool,
 }
 
 // Without a word: the practice desk's ring and records. Its reader takes as much as the longest ring holds, so it empties the ring.
@@ -61,7 +54,6 @@ pub(crate) enum Word {
     Ring,
     Release,
     Records,
-    Unknown,
 }
 
 fn is_word(name: &[u8], word: &[u8]) -> bool
@@ -70,19 +62,19 @@ fn is_word(name: &[u8], word: &[u8]) -> bool
     name == word
 }
 
-fn word_of(name: &[u8]) -> Word
+// A `match` of the three texts has eighteen ways to none of them, and each would have to be proved.
+fn word_of(name: &[u8]) -> Option<Word>
     ensures { result ≡ word_of name.now }
 {
     if is_word(name, b"ring") {
-        return Word::Ring;
+        Some(Word::Ring)
+    } else if is_word(name, b"release") {
+        Some(Word::Release)
+    } else if is_word(name, b"records") {
+        Some(Word::Records)
+    } else {
+        None
     }
-    if is_word(name, b"release") {
-        return Word::Release;
-    }
-    if is_word(name, b"records") {
-        return Word::Records;
-    }
-    Word::Unknown
 }
 
 // Whether n lies within the word's limits.
@@ -93,125 +85,66 @@ fn takes(word: Word, n: usize) -> bool
         Word::Ring => (SHORTEST_RING <= n) & (n <= LONGEST_RING),
         Word::Release => (1 <= n) & (n <= LONGEST_RING),
         Word::Records => (1 <= n) & (n <= MOST_RECORDS),
-        Word::Unknown => false,
     }
 }
 
 fn with_word(before: Words, word: Word, n: usize) -> Words
     ensures { result ≡ with_word before word n }
 {
-    let ring = before.ring;
-    let release = before.release;
-    let records = before.records;
     match word {
-        Word::Ring => Words {
-            ring: n,
-            release,
-            records,
-        },
+        Word::Ring => Words { ring: n, ..before },
         Word::Release => Words {
-            ring,
             release: n,
-            records,
+            ..before
         },
         Word::Records => Words {
-            ring,
-            release,
             records: n,
+            ..before
         },
-        Word::Unknown => before,
     }
 }
 
-// A word and the number behind it.
-pub fn hear(before: Words, name: &[u8], value: &[u8]) -> Heard
+// A word and the number behind it; `None` where they are not understood.
+pub fn hear(before: Words, name: &[u8], value: &[u8]) -> Option<Words>
     ensures { result ≡ heard before name.now value.now }
 {
-    let word = word_of(name);
-    let n = number_in(value);
-    if takes(word, n) {
-        return Heard {
-            words: with_word(before, word, n),
-            good: true,
-        };
-    }
-    Heard {
-        words: before,
-        good: false,
-    }
+    let word = word_of(name)?;
+    let n = number_in(value)?;
+    takes(word, n).then_some(with_word(before, word, n))
 }
 
-// Whether there is a word at place i of what was typed.
-fn is_typed<R: Env>(rt: &R, i: usize) -> bool {
-    let mut word = [0u8; 16];
-    match rt.arg(i, &mut word) {
-        Err(FillError::NotPresent) => false,
-        _ => true,
-    }
-}
-
-// How long the word at place i is, which then stands in `word`. What is missing or longer than any word is no word.
-fn length_at<R: Env>(rt: &R, i: usize, word: &mut [u8]) -> usize
-    ensures { result ≤ length word.new }
-{
-    match rt.arg(i, word) {
-        Ok(n) => n,
-        Err(_) => 0,
+// The word at place i of what was typed, which then stands in `space`, where there is one. What is longer than any word is an empty one.
+pub fn word_at<'a, R: Env>(rt: &R, i: usize, space: &'a mut [u8; 16]) -> Option<&'a [u8]> {
+    match rt.arg(i, space) {
+        Ok(n) => Some(&space[..n]),
+        Err(FillError::NotPresent) => None,
+        Err(_) => Some(&[]),
     }
 }
 
 // The word at place i of what was typed, with its number, where there is one.
-fn heard_at<R: Env>(rt: &R, before: Heard, i: usize) -> Heard
-    requires { Allowed before.words × (i < 10) }
-    ensures { Allowed result.words }
+fn heard_at<R: Env>(rt: &R, before: Words, i: usize) -> Option<Words>
+    requires { Allowed before × (i < 10) }
+    ensures { IfSome result Allowed }
 {
-    if !is_typed(rt, i) {
-        return before;
-    }
     let mut name = [0u8; 16];
     let mut value = [0u8; 16];
-    let n = length_at(rt, i, &mut name);
-    let m = length_at(rt, i + 1, &mut value);
-    also_heard(before, &name[..n], &value[..m])
-}
-
-fn also_heard(before: Heard, name: &[u8], value: &[u8]) -> Heard
-    requires { Allowed before.words }
-    ensures { Allowed result.words }
-{
-    let words = before.words;
-    let now = hear(words, name, value);
-    let words = now.words;
-    Heard {
-        words,
-        good: before.good & now.good,
+    match word_at(rt, i, &mut name) {
+        Some(name) => hear(before, name, word_at(rt, i + 1, &mut value)?),
+        None => Some(before),
     }
 }
 
-// The first of the words: behind the program's name or, where it was started with a word of its own, behind that.
-fn first_place(own: bool) -> usize
-    ensures { result ≤ 2 }
+// All that was typed, but for the first word where it is the program's own; `None` where something is not understood. There are three words, so more
+// than six places are too many.
+pub fn typed<R: Env>(rt: &R, own: bool) -> Option<Words>
+    ensures { IfSome result Allowed }
 {
-    if own { 2 } else { 1 }
-}
-
-// Nothing heard yet. There are three words, so more than six places are too many.
-fn silence<R: Env>(rt: &R, first: usize) -> Heard
-    requires { first ≤ 2 }
-    ensures { Allowed result.words }
-{
-    let words = usual();
-    Heard {
-        words,
-        good: !is_typed(rt, first + 6),
+    let first = if own { 2 } else { 1 };
+    if word_at(rt, first + 6, &mut [0; 16]).is_some() {
+        return None;
     }
-}
-
-// All that was typed, but for the first word where it is the program's own.
-pub fn typed<R: Env>(rt: &R, own: bool) -> Heard
-    ensures { Allowed result.words }
-{
-    let first = first_place(own);
-    let one = heard_at(rt, silence(rt, first), first);
-    heard_at(rt, heard_at(rt, one, first + 2), first + 4)
+    let one = heard_at(rt, usual(), first)?;
+    let two = heard_at(rt, one, first + 2)?;
+    heard_at(rt, two, first + 4)
 }

@@ -9,8 +9,8 @@ returns-then-n-eq0 c =
     let e = rw c.unread-bytes.ensures at c.whole-n.ensures in
     simp (c.unread-bytes.ensures, eq-eqb _ _ (sym e ∙ c.if-n-eq0.true))
 
-pub returns : goal.returns
+pub returns-else-n-eq0 : goal.returns-else-n-eq0
 unfolding handed_out
-returns c =
+returns-else-n-eq0 c =
     let e = rw c.unread-bytes.ensures at c.whole-n.ensures in
-    simp (c.fewer.ensures, e, ne_eqb _ _ (λ z. c.if-n-eq0.false (e ∙ z)))
+    simp (c.saturating_sub.ensures, e, ne_eqb _ _ (λ z. c.if-n-eq0.false (e ∙ z)))

@@ -1,16 +1,19 @@
--- Both returns are the choice that the test led to. Assumes nothing.
+-- Each return is the choice that its tests led to. Assumes nothing.
 use Rattle.octets.proofs.Proving.{◌∙◌, sym}
 use Rattle.words.specs.Words.{heard}
 use Rattle.words.proofs.hear.Goals as goal
 
-pub returns-then-takes : goal.returns-then-takes
+pub returns-in_err-word : goal.returns-in_err-word
 unfolding heard
-returns-then-takes c =
-    let t = rw (c.word_of-word.ensures, c.number_in-n.ensures) at c.takes.ensures in
-    simp (sym t ∙ c.if-takes.true, c.with_word.ensures, c.word_of-word.ensures, c.number_in-n.ensures)
+returns-in_err-word c = c.from_residual.ensures ∙ simp (sym c.word_of.ensures ∙ c.in_err-word.was)
+
+pub returns-in_err-n : goal.returns-in_err-n
+unfolding heard
+returns-in_err-n c =
+    c.from_residual-in_err-n.ensures ∙ simp (sym c.word_of.ensures ∙ c.in_ok-word.was, sym c.number_in.ensures ∙ c.in_err-n.was)
 
 pub returns : goal.returns
 unfolding heard
 returns c =
-    let t = rw (c.word_of-word.ensures, c.number_in-n.ensures) at c.takes.ensures in
-    simp (sym t ∙ c.if-takes.false)
+    c.then_some.ensures
+    ∙ simp (c.takes.ensures, c.with_word.ensures, sym c.word_of.ensures ∙ c.in_ok-word.was, sym c.number_in.ensures ∙ c.in_ok-n.was)

@@ -10,22 +10,22 @@ returns-then-is_word c = simp (sym c.is_word.ensures ∙ c.if-is_word.true)
 
 pub returns-then-is_word-2 : goal.returns-then-is_word-2
 unfolding word_of text
-returns-then-is_word-2 c = simp (sym c.is_word.ensures ∙ c.if-is_word.false, sym c.is_word-2.ensures ∙ c.if-is_word-2.true)
+returns-then-is_word-2 c = simp (sym c.is_word.ensures ∙ c.if-is_word.false, sym c.is_word-else-is_word.ensures ∙ c.if-is_word-2.true)
 
 pub returns-then-is_word-3 : goal.returns-then-is_word-3
 unfolding word_of text
 returns-then-is_word-3 c =
     simp (
       sym c.is_word.ensures ∙ c.if-is_word.false,
-      sym c.is_word-2.ensures ∙ c.if-is_word-2.false,
-      sym c.is_word-3.ensures ∙ c.if-is_word-3.true,
+      sym c.is_word-else-is_word.ensures ∙ c.if-is_word-2.false,
+      sym c.is_word-else-is_word-2.ensures ∙ c.if-is_word-3.true,
     )
 
-pub returns : goal.returns
+pub returns-else-is_word-3 : goal.returns-else-is_word-3
 unfolding word_of text
-returns c =
+returns-else-is_word-3 c =
     simp (
       sym c.is_word.ensures ∙ c.if-is_word.false,
-      sym c.is_word-2.ensures ∙ c.if-is_word-2.false,
-      sym c.is_word-3.ensures ∙ c.if-is_word-3.false,
+      sym c.is_word-else-is_word.ensures ∙ c.if-is_word-2.false,
+      sym c.is_word-else-is_word-2.ensures ∙ c.if-is_word-3.false,
     )

@@ -5,13 +5,4 @@ use Rattle.listing.proofs.clock.clock.Goals as goal
 
 pub returns : goal.returns
 unfolding clock joined
-returns c =
-    simp (
-      c.nanoseconds-n.ensures,
-      c.digit.ensures,
-      c.digit-2.ensures,
-      c.digit-3.ensures,
-      c.digit-4.ensures,
-      c.digit-5.ensures,
-      c.digit-6.ensures,
-    )
+returns c = simp (c.digits.ensures, c.digits-2.ensures, c.digits-3.ensures, c.digits-4.ensures)

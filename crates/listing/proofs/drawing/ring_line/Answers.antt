@@ -10,9 +10,9 @@ pub returns : goal.returns
 unfolding drawing joined text
 returns c =
     let end = c.said.ensures in
-    let size = c.named.ensures in
-    let held = c.named-counted.ensures in
-    let at = c.named-placed.ensures in
+    let size = c.named-3.ensures in
+    let held = c.named-2.ensures in
+    let at = c.named.ensures in
     let cells = c.cells.ensures in
     shown
     (says_on (says_on (says_on (says_on cells.0 at.0) held.0) size.0) end)

@@ -10,7 +10,7 @@ pub returns : goal.returns
 unfolding last_line joined text
 returns c =
     let end = c.said.ensures in
-    let sent = c.named.ensures in
-    let taken = c.named-counted.ensures in
+    let sent = c.named-2.ensures in
+    let taken = c.named.ensures in
     let none = c.blank.ensures in
     shown (says_on (says_on (says_on none taken.0) sent.0) end) (omega (arith, none.long, taken.1, sent.1, end.longer)) (simp append_assoc)

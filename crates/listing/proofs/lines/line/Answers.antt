@@ -9,9 +9,9 @@ pub returns : goal.returns
 unfolding line joined
 returns c =
     let end = c.said.ensures in
-    let answer = c.named-answered.ensures in
+    let answer = c.named-2.ensures in
     let kind = c.in_hex.ensures in
-    let number = c.named-numbered.ensures in
+    let number = c.named.ensures in
     let none = c.blank.ensures in
     shown
     (says_on (says_on (says_on none number.0) (rw kind at answer.0)) end)

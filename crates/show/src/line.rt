@@ -1,18 +1,17 @@
 // The pieces of a line.
-ghost use Rattle.std.specs.Prelude.{◌≤◌};
-
 use answers::{Answer, number};
 use listing::clock::clock;
 use listing::price::behind_point;
+use std::io;
 use std::io::{Print, Stdout};
 
 pub(crate) fn say(out: Stdout, words: &[u8]) {
     let _ = out.write_all(words);
 }
 
-// Every line ends here. Where standard output takes no more, so much as the line's end, the answer is false and the program stops.
-pub(crate) fn end_line(out: Stdout) -> bool {
-    out.write_all(b"\n").is_ok()
+// Every line ends here. Where standard output takes no more, so much as the line's end, it is an error and the program stops.
+pub(crate) fn end_line(out: Stdout) -> io::Result<()> {
+    out.write_all(b"\n")
 }
 
 pub(crate) fn say_number(out: Stdout, name: &[u8], n: u64) {
@@ -37,23 +36,15 @@ pub(crate) fn say_letter(out: Stdout, name: &[u8], b: u8) {
     say(out, &[b'\'', printable(b), b'\'']);
 }
 
-fn at_most_sixteen(n: usize) -> usize
-    ensures { (result ≤ n) × (result ≤ 16) }
-{
-    if n < 16 { n } else { 16 }
-}
-
 // At most sixteen bytes of a text, in quotes, with the spaces that fill its field.
 fn say_text(out: Stdout, name: &[u8], text: &[u8]) {
     say(out, name);
+    let n = text.len().min(16);
     let mut shown = [b'\''; 18];
-    let mut i: usize = 0;
-    let n = at_most_sixteen(text.len());
-    while i < n {
-        shown[i + 1] = printable(text[i]);
-        i += 1;
+    for (place, b) in shown[1..].iter_mut().zip(&text[..n]) {
+        *place = printable(*b);
     }
-    say(out, &shown[0..n + 2]);
+    say(out, &shown[..n + 2]);
 }
 
 pub(crate) fn say_stamp(out: Stdout, name: &[u8], stamp: u64) {
@@ -88,7 +79,7 @@ pub(crate) fn say_head(out: Stdout, name: &[u8], stamp: u64, token: [u8; 14]) {
     say_token(out, b" ", token);
 }
 
-pub(crate) fn say_refused(out: Stdout, name: &[u8], answer: Answer) -> bool {
+pub(crate) fn say_refused(out: Stdout, name: &[u8], answer: Answer) -> io::Result<()> {
     say(out, name);
     say_number(out, b" refused with ", number(answer) as u64);
     end_line(out)
