@@ -2,8 +2,7 @@
 #![tactic(auto)]
 
 ghost use Rattle.std.specs.Prelude.{◌≡◌};
-ghost use Rattle.octets.specs.Choice.{◌⇒◌⨾◌};
-ghost use Rattle.answers.specs.Answer.{refusal_number, refusal_place, answer_number, answer_place, is_done};
+ghost use Rattle.answers.specs.Answer.{refusal_number, refusal_place, answer_number, answer_place};
 
 // Why a call has changed nothing, in the paper's order of checking; the last two are a release's and a writer's. A bad field comes with the offset
 // of its first bad byte.
@@ -82,21 +81,4 @@ pub fn place(answer: Answer) -> usize
         Ok(()) => 0,
         Err(refusal) => refusal.place(),
     }
-}
-
-// Only a call that answers Done has changed anything, and only an entry that comes to it goes on.
-pub fn is_done(answer: Answer) -> bool
-    ensures { result ≡ is_done answer }
-{
-    match answer {
-        Ok(()) => true,
-        Err(_) => false,
-    }
-}
-
-// The paper's 'first that applies', one question at a time: this answer where the test holds, and else what the later questions answer.
-pub fn first_of(test: bool, this: Answer, later: Answer) -> Answer
-    ensures { result ≡ (test ⇒ this ⨾ later) }
-{
-    if test { this } else { later }
 }

@@ -1,7 +1,7 @@
 // What the status call says of all orders, where a script asks it.
 use crate::run::Run;
 use crate::text::Text;
-use answers::{is_done, number};
+use answers::number;
 use std::io;
 use std::io::Write;
 use table::status::status;
@@ -11,7 +11,7 @@ pub(crate) fn asked(table: &[u8], run: Run, out: &mut Text) -> io::Result<()> {
         return Ok(());
     }
     let tally = status(table);
-    if is_done(tally.answer) {
+    if tally.answer.is_ok() {
         return write!(out, ", in all {} live, {} open", tally.live, tally.shares);
     }
     write!(out, ", status {}", number(tally.answer))

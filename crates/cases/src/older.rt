@@ -1,7 +1,7 @@
 // The table of two records in its old form, without bits, and what the converter makes of it.
 use crate::run::Last;
 use crate::text::{part, put};
-use answers::{Answer, is_done, number, place};
+use answers::{Answer, Refusal, number, place};
 use convert::convert;
 
 // How long it is: the bits stood behind it.
@@ -20,7 +20,7 @@ pub(crate) fn take_back(table: &mut [u8]) {
 fn rebuilt(old: &[u8], second: &mut [u8], n: usize) -> Answer {
     match second.get_mut(..n) {
         Some(lent) => convert(old, lent),
-        None => Answer::NoRoom,
+        None => Err(Refusal::NoRoom),
     }
 }
 

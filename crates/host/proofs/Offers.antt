@@ -1,6 +1,6 @@
 -- What an offer comes to, and so what the code that stands there leaves. Assumes nothing.
-use Rattle.std.specs.Prelude.{Err}
-use Rattle.octets.proofs.Proving.{Bool, List, Option, ◌<◌, ◌∙◌, ◌≡◌, ◌≤◌, ap, arith, false, le-ltb, length, length-append, lt-ltb, none, not, refl, some, sym, take, take_at, true, ℕ}
+use Rattle.std.specs.Prelude.{Err, Option, None, Some}
+use Rattle.octets.proofs.Proving.{Bool, List, ◌<◌, ◌∙◌, ◌≡◌, ◌≤◌, ap, arith, false, le-ltb, length, length-append, lt-ltb, not, refl, sym, take, take_at, true, ℕ}
 use Rattle.octets.specs.Choice.{◌⇒◌⨾◌}
 use Rattle.answers.specs.Answer.{is_done}
 use Rattle.wire.specs.Messages.{bad_at◌⨾◌, in_eighty}
@@ -17,15 +17,15 @@ pub stays : (w : World) (a : Answer) → Leaves (unchanged w a) a w.marks w.book
 stays w a = record { answered = refl; marked = refl; tabled = refl; ringed = refl; listed = refl }
 
 -- what judging lets pass is well formed, and no byte of it is bad
-pub judged-good : (s : List ℕ) → entry_answer s ≡ Done → (well_formed s ≡ true) × (bad_place_of s ≡ none)
+pub judged-good : (s : List ℕ) → entry_answer s ≡ Done → (well_formed s ≡ true) × (bad_place_of s ≡ None)
 unfolding entry_answer
 judged-good s legal = by (well_formed s) (bad_place_of s) refl refl legal
   where
     by : (f : Bool) (o : Option ℕ) → well_formed s ≡ f → bad_place_of s ≡ o → (not f ⇒ Malformed ⨾ bad_at o ⨾ Done) ≡ Done
-        → (well_formed s ≡ true) × (bad_place_of s ≡ none)
-    by true none f l e = (f, l)
+        → (well_formed s ≡ true) × (bad_place_of s ≡ None)
+    by true None f l e = (f, l)
     by false o f h e = absurd (let z : ◌≡◌ {A = ℕ} 0 1 = cc in omega arith)
-    by true (some at) f l e = absurd (let z : ◌≡◌ {A = ℕ} 0 1 = cc in omega arith)
+    by true (Some at) f l e = absurd (let z : ◌≡◌ {A = ℕ} 0 1 = cc in omega arith)
 
 module _ (w : World) (s : List ℕ) where
   pub refused-leaves : {r : Refusal} → entry_answer s ≡ Err r → Leaves (offer w s) (Err r) w.marks w.books.table w.ring w.books.stocks

@@ -1,6 +1,7 @@
 -- What is known of an entry that comes to something done: it is legal, a record and a reference are left where they are needed, and its plan
 -- keeps what the rules keep. Assumes nothing.
-use Rattle.octets.proofs.Proving.{Bool, List, Option, ◌&&◌, ◌+◌, ◌<◌, ◌||◌, ◌∙◌, ◌∷◌, ◌≡◌, ◌≢◌, ◌≤◌, ◌⊎◌, ap, arith, drop, drop-drop, eqb, false, false≢true, guard, inl, inr, le-leb, length, length-drop, ltb, ltb-true, none, not, not-false, not-true, or_left, or_right, refl, replicate, some, subst, sym, take, true, ℕ}
+use Rattle.octets.proofs.Proving.{Bool, List, ◌&&◌, ◌+◌, ◌<◌, ◌||◌, ◌∙◌, ◌∷◌, ◌≡◌, ◌≢◌, ◌≤◌, ◌⊎◌, ap, arith, drop, drop-drop, eqb, false, false≢true, guard, inl, inr, le-leb, length, length-drop, ltb, ltb-true, not, not-false, not-true, or_left, or_right, refl, replicate, subst, sym, take, true, ℕ}
+use Rattle.std.specs.Prelude.{Option, None, Some}
 use Rattle.octets.specs.Choice.{◌⇒◌⨾◌, all_below, among}
 use Rattle.octets.specs.Bytes.{part}
 use Rattle.octets.proofs.Laws.{length_part}
@@ -289,8 +290,8 @@ module _ (books : Books) (s : List ℕ) (ok : Sound books.table) where
       Other d = is_blocked (answer_of d) ≡ false
 
       by_place : (o : Option ℕ) → is_blocked (bad_at o ⨾ Done) ≡ false
-      by_place none = refl
-      by_place (some at) = refl
+      by_place None = refl
+      by_place (Some at) = refl
 
       judged-unblocked : is_blocked (entry_answer s) ≡ false
       judged-unblocked = guard (λ (a : Answer). is_blocked a ≡ false) (not (well_formed s)) (λ _. refl) λ _. by_place (bad_place_of s)

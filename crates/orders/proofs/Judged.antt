@@ -1,5 +1,6 @@
 -- What judging a record comes to: the tests that the code makes, all of them and no others. Assumes nothing.
-use Rattle.octets.proofs.Proving.{Bool, List, ◌&&◌, ◌+◌, ◌||◌, ◌∙◌, ◌≡◌, ◌≤◌, and_assoc, and-true, ap, ap₂, drop, eqb, eqb-true, false, get_or, leb, length, ne_eqb, none, or-false, refl, sym, true, ℕ}
+use Rattle.octets.proofs.Proving.{Bool, List, ◌&&◌, ◌+◌, ◌||◌, ◌∙◌, ◌≡◌, ◌≤◌, and_assoc, and-true, ap, ap₂, drop, eqb, eqb-true, false, get_or, leb, length, ne_eqb, or-false, refl, sym, true, ℕ}
+use Rattle.std.specs.Prelude.{None}
 use Rattle.octets.specs.Choice.{◌⇒◌⨾◌, all_below}
 use Rattle.octets.specs.Bytes.{part, all_are}
 use Rattle.octets.proofs.Laws.{length_part}
@@ -24,7 +25,7 @@ thirty_two r = simp and-true
 
 pub record-token : (r : List ℕ) → no_bad_place record_layout r ≡ legal_token (order_of r).token
 unfolding no_bad_place first_bad_place bad_place order_of
-record-token r = none-of-both (bad_token_byte 1 (part r 1 14)) none ∙ and-true _ ∙ token-bytes 1 (part r 1 14)
+record-token r = none-of-both (bad_token_byte 1 (part r 1 14)) None ∙ and-true _ ∙ token-bytes 1 (part r 1 14)
 
 -- 32 bytes of the record are asked instead of the token's 14
 pub token-tests : (r : List ℕ) → 15 ≤ length r → all_below 32 (token_place r) ≡ no_bad_place record_layout r

@@ -28,7 +28,7 @@ pub(crate) fn draw(out: Stdout, size: usize, marks: Marks) -> io::Result<()> {
 
 // The marks after a reader took as much as it takes, or all that is held.
 pub(crate) fn taken_from(size: usize, marks: Marks, takes: usize) -> Marks {
-    release(size, marks, octets::least(takes, marks.held)).marks
+    release(size, marks, takes.min(marks.held)).marks
 }
 
 // The reader goes on alone until nothing is held, and the ring is drawn each time that it took, from the last offer on.

@@ -6,7 +6,7 @@ use crate::line::{
     end_line, say_firm, say_head, say_letter, say_number, say_price, say_refused, say_stamp,
     say_stock, say_token,
 };
-use answers::{is_done, place};
+use answers::place;
 use std::io;
 use std::io::Stdout;
 use tape::judging::judge;

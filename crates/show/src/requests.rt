@@ -1,6 +1,6 @@
 // A row of messages as clients send them to the purge port, one line a message.
 use crate::line::{end_line, say, say_account, say_firm, say_number, say_refused, say_symbol};
-use answers::{Answer, is_done, place};
+use answers::{Answer, place};
 use purge::mass_cancel::read_mass_cancel;
 use purge::order_entry::{DISABLE, ENABLE, OrderEntryRead, read_disable, read_enable};
 use std::io;

@@ -1,10 +1,10 @@
 // A table: whether it is sound and what it keeps of its live orders, the day, a line for each firm, and one for each used record.
 use crate::line::{end_line, say, say_firm, say_number, say_refused, say_stamp};
 use crate::records::show_record;
-use answers::{Answer, is_done};
+use answers::Answer;
 use header::firms::{MOST_FIRMS, firm_at, firm_blocked};
 use header::{BEFORE, CLOSED, HEADER_SIZE, Header, OPEN};
-use octets::{byte_at, least};
+use octets::byte_at;
 use std::io;
 use std::io::Stdout;
 use table::find::order_from;
@@ -18,7 +18,7 @@ const LONGEST_TABLE: usize = 64_164;
 // One that is not sound is shown as far as it goes, so that what is wrong in it can be seen.
 pub(crate) fn show_table(out: Stdout, table: &[u8]) -> io::Result<()> {
     let tally = status(table);
-    if is_done(tally.answer) {
+    if tally.answer.is_ok() {
         show_tally(out, table, tally)?;
         show_day(out, header(table))?;
         show_firms(out, header(table))?;
@@ -94,7 +94,7 @@ fn show_firm(out: Stdout, h: Header, firm: [u8; 4]) -> io::Result<()> {
 }
 
 fn show_firms(out: Stdout, h: Header) -> io::Result<()> {
-    for k in 0..least(h.count as usize, MOST_FIRMS) {
+    for k in 0..(h.count as usize).min(MOST_FIRMS) {
         show_firm(out, h, firm_at(h.firms, k))?;
     }
     Ok(())

@@ -28,7 +28,7 @@ const BLOCKED: u8 = 9;
 // The run at the read place, or as much of it as the reader takes, is written and given up. The marks afterwards, and how much more it takes.
 fn send_run(out: Stdout, ring: &[u8], marks: Marks, takes: usize) -> io::Result<(Marks, usize)> {
     let run = read(ring, marks);
-    let n = octets::least(takes, run.len());
+    let n = takes.min(run.len());
     out.write_all(&run[..n])?;
     Ok((release(ring.len(), marks, n).marks, takes - n))
 }

@@ -7,18 +7,20 @@ ghost use Rattle.table.specs.Fresh.{fresh_answer, fresh_table};
 
 use crate::places::store_header;
 use crate::sound::size_good;
-use answers::{Answer, Refusal, first_of};
+use answers::{Answer, Refusal};
 use header::settings::{Settings, fresh_header, settings_good};
 
 // 10 for a bad length, then 3 for bad settings.
 fn fresh_answer(table: &[u8], settings: Settings) -> Answer
     ensures { result ≡ fresh_answer table.now settings }
 {
-    first_of(
-        !size_good(table),
-        Err(Refusal::NotSound),
-        first_of(!settings_good(settings), Err(Refusal::BadField(0)), Ok(())),
-    )
+    if !size_good(table) {
+        return Err(Refusal::NotSound);
+    }
+    if !settings_good(settings) {
+        return Err(Refusal::BadField(0));
+    }
+    Ok(())
 }
 
 // Zeros, and the header over them.
@@ -32,9 +34,7 @@ fn begin(table: &mut [u8], settings: Settings)
 pub fn fresh(table: &mut [u8], settings: Settings) -> Answer
     ensures { (result ≡ fresh_answer table.old settings) × (table.new ≡ fresh_table table.old settings) }
 {
-    let answer = fresh_answer(table, settings);
-    if answer.is_ok() {
-        begin(table, settings);
-    }
-    answer
+    fresh_answer(table, settings)?;
+    begin(table, settings);
+    Ok(())
 }

@@ -17,4 +17,4 @@ loop-k-preserved c =
 
 pub returns : goal.returns
 returns c =
-    c.loop-k.invariant.1 ∙ row-all c.args.firms c.args.count c.loop-k.k (omega arith) (omega (arith, c.least-k-end.ensures)) c.loop-k.invariant.2
+    c.loop-k.invariant.1 ∙ row-all c.args.firms c.args.count c.loop-k.k (omega arith) (omega (arith, c.min-k-end.ensures)) c.loop-k.invariant.2

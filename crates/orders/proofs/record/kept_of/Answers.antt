@@ -4,4 +4,4 @@ use Rattle.orders.proofs.record.kept_of.Goals as goal
 
 pub returns : goal.returns
 unfolding order_of
-returns c = rw (c.bytes_at.ensures, c.bytes_at.ensures, c.byte_at.ensures, c.byte_at-2.ensures)
+returns c = cc

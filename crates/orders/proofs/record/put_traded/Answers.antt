@@ -15,6 +15,6 @@ returns c =
     let p1 = p2 in
     let start = p1 in
     let put = puts-at traded_fields (traded_values start.args.details) start.args.s.now
-    (p1.put_array.ensures then p2.put_be32.ensures then p3.put_be32-2.ensures then p4.put_array.ensures then ends)
+    (p1.put_array.ensures then p2.put_be32.ensures then p3.put_be32-2.ensures then p4.put_array-2.ensures then ends)
     28 48 refl (omega arith) in
     (put.0, omega (arith, put.1))

@@ -1,17 +1,16 @@
 -- The answer is asked first, and only done writes. Assumes nothing.
-use Rattle.answers.specs.Answer.{if_done}
+use Rattle.std.specs.Prelude.{Err}
+use Rattle.octets.proofs.Proving.{◌∙◌, ◌≡◌, refl, rules, sym}
+use Rattle.answers.specs.Answer.{is_done, if_done}
 use Rattle.table.specs.Fresh.{fresh_table}
 use Rattle.table.proofs.fresh.fresh.Goals as goal
 
-pub returns-then-is_done : goal.returns-then-is_done
-unfolding fresh_table if_done
-returns-then-is_done c =
-    let done = c in
-    let answer = done.fresh_answer-answer.ensures in
-    (answer, rw (← answer, ← done.is_done.ensures, done.if-is_done.true) c.begin.ensures)
+pub returns-in_err-fresh_answer : goal.returns-in_err-fresh_answer
+unfolding fresh_table if_done is_done
+returns-in_err-fresh_answer c =
+    let e : c.from_residual.result ≡ Err c.in_err-fresh_answer.field-0.0 = search rules in
+    rw (e, sym c.fresh_answer.ensures ∙ c.in_err-fresh_answer.was) (refl, refl)
 
-pub returns-else-is_done : goal.returns-else-is_done
-unfolding fresh_table if_done
-returns-else-is_done c =
-    let answer = c.fresh_answer-answer.ensures in
-    (answer, rw (← answer, ← c.is_done.ensures, c.if-is_done.false))
+pub returns : goal.returns
+unfolding fresh_table if_done is_done
+returns c = rw (sym c.fresh_answer.ensures ∙ c.in_ok-fresh_answer.was) (refl, c.begin.ensures)

@@ -19,4 +19,4 @@ returns c =
     let long = length-take-le 60 t (omega arith) in
     let front : part t 4 4 ≡ part (take 60 t) 4 4 =
     ap (λ (l : List ℕ). part l 4 4) (sym (take-append-drop 60 t)) ∙ part-front (take 60 t) (drop 60 t) 4 4 (omega (arith, long)) in
-    rw (le-ltb _ 64 c.if-table-lt-HEADER_SIZE.false, c.least.ensures, c.be32.ensures, c.records_in.ensures, front)
+    rw (le-ltb _ 64 c.if-table-lt-HEADER_SIZE.false, c.min.ensures, c.be32.ensures, c.records_in.ensures, front)
