@@ -26,6 +26,7 @@ pub(crate) fn old_records(old: &[u8]) -> usize
 }
 
 // How many records are used, of those that there are.
+#[tactic(auto, unfolding(crate::specs::Old::old_used, crate::specs::Old::old_records, crate::specs::Old::old_header, header::specs::Header::header_of))]
 pub(crate) fn old_used(old: &[u8]) -> usize
     ensures { result ≡ old_used old.now }
 {

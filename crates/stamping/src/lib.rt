@@ -20,10 +20,10 @@ pub fn stamped(purge: bool, stamp: u64, message: &[u8], entry: &mut [u8]) -> Ans
     ensures { (result ≡ stamp_answer purge stamp message.now entry.old) × (entry.new ≡ stamp_after purge stamp message.now entry.old) }
 {
     let answer = heard(purge, message);
-    if answer.is_ok() {
-        return made(purge, stamp, message, entry);
+    if !answer.is_ok() {
+        return answer;
     }
-    answer
+    made(purge, stamp, message, entry)
 }
 
 // What the message's own reader answers.
@@ -31,48 +31,48 @@ fn heard(purge: bool, message: &[u8]) -> Answer
     ensures { result ≡ heard purge message.now }
 {
     if purge {
-        return heard_by_purge(message);
+        heard_by_purge(message)
+    } else {
+        heard_by_host(message)
     }
-    heard_by_host(message)
 }
 
+#[tactic(auto, unfolding(crate::specs::Stamping::heard, wire::specs::Layout::layout_for))]
 fn heard_by_purge(message: &[u8]) -> Answer
     ensures { result ≡ heard true message.now }
 {
-    let letter = first_byte(message);
-    match letter {
-        b'M' => judge_mass_cancel(message),
-        b'D' => judge_order_entry(message, DISABLE),
-        b'E' => judge_order_entry(message, ENABLE),
+    match message {
+        [b'M', ..] => judge_mass_cancel(message),
+        [b'D', ..] => judge_order_entry(message, DISABLE),
+        [b'E', ..] => judge_order_entry(message, ENABLE),
         _ => Err(Refusal::Malformed),
     }
 }
 
+#[tactic(auto, unfolding(crate::specs::Stamping::heard, wire::specs::Layout::layout_for))]
 fn heard_by_host(message: &[u8]) -> Answer
     ensures { result ≡ heard false message.now }
 {
-    let letter = first_byte(message);
-    match letter {
-        b'O' => judge(message, ENTER_ORDER),
-        b'U' => judge(message, REPLACE_ORDER),
-        b'X' => judge(message, CANCEL_ORDER),
-        b'M' => judge(message, MODIFY_ORDER),
+    match message {
+        [b'O', ..] => judge(message, ENTER_ORDER),
+        [b'U', ..] => judge(message, REPLACE_ORDER),
+        [b'X', ..] => judge(message, CANCEL_ORDER),
+        [b'M', ..] => judge(message, MODIFY_ORDER),
         _ => Err(Refusal::Malformed),
     }
 }
 
 // The kind under which a message of this type goes.
+#[tactic(auto, unfolding(crate::specs::Stamping::kind_for))]
 fn kind_for(purge: bool, letter: u8) -> u8
     ensures { result ≡ kind_for purge letter }
 {
-    if purge {
-        return match letter {
-            b'M' => b'w',
-            b'D' => b'd',
-            _ => b'n',
-        };
+    match (purge, letter) {
+        (true, b'M') => b'w',
+        (true, b'D') => b'd',
+        (true, _) => b'n',
+        (false, _) => letter,
     }
-    letter
 }
 
 // The entry of a message that was judged, where there is room for it.

@@ -3,7 +3,8 @@ use Rattle.octets.proofs.Settles.{Settled, SettledLent, ◌and◌, ◌also◌, s
 use Rattle.stocks.proofs as stocks
 
 pub list-unique : Settled stocks.judge.list_good.Reads.Post and Settled stocks.find.standing.Reads.Post
-list-unique = (λ κs a. settled) also (λ κs a. settled)
+    and Settled stocks.find.Listed.standing.Reads.Post
+list-unique = (λ κs a. settled) also (λ κs a. settled) also (λ κs a. settled)
 
 pub set-unique : SettledLent stocks.set.set_state.Reads.Post
 set-unique κs a = lent

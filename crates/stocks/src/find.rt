@@ -12,24 +12,16 @@ use crate::standing::Standing;
 // So many halvings bring 2,000 places down to one. Always as many: a loop of a known length has no branch that depends on the list.
 const HALVINGS: usize = 11;
 
-// Bytes that are a right list: what is asked of them needs no judging again.
+// The bytes of a right list. Whoever makes one shows that they are, as whoever has judged them can; whoever is handed one need not ask.
 #[derive(Clone, Copy)]
 pub struct Listed<'a> {
-    bytes: &'a [u8],
+    pub bytes: &'a [u8],
     ghost are_bytes: { Bytes bytes.now },
     ghost good: { list_good bytes.now ≡ true },
 }
 
 #[tactic(auto, unfolding(crate::specs::Stocks::places_in))]
-impl<'a> Listed<'a> {
-    // For bytes that were judged already.
-    pub fn of(bytes: &'a [u8]) -> Listed<'a>
-        requires { list_good bytes.now ≡ true }
-        ensures { result.bytes.now ≡ bytes.now }
-    {
-        Listed { bytes }
-    }
-
+impl Listed<'_> {
     fn places(&self) -> usize
         ensures { result ≡ places_in self.now.bytes.now }
     {
@@ -95,5 +87,5 @@ pub fn standing(list: &[u8], symbol: [u8; 8]) -> Standing
     requires { list_good list.now ≡ true }
     ensures { result ≡ standing_in list.now symbol }
 {
-    Listed::of(list).standing(symbol)
+    Listed { bytes: list }.standing(symbol)
 }

@@ -11,6 +11,7 @@ use wire::letters::is_stock_state;
 
 pub const MOST_PLACES: usize = 2_000;
 
+#[tactic(auto, unfolding(crate::specs::Stocks::state_at))]
 fn state_good(list: &[u8], i: usize) -> bool
     requires { place_size * i + place_size ≤ length list.now }
     ensures { result ≡ among stock_states (state_at list.now i) }

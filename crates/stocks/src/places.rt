@@ -20,6 +20,7 @@ pub(crate) fn rank(symbol: [u8; 8]) -> u64
 }
 
 // The eight bytes are copied out at once, since read one by one from the list they stay eight loads.
+#[tactic(auto, unfolding(crate::specs::Ranks::rank_at, crate::specs::Stocks::symbol_at))]
 pub(crate) fn rank_at(list: &[u8], i: usize) -> u64
     requires { place_size * i + symbol_size ≤ length list.now }
     ensures { result ≡ rank_at list.now i }

@@ -11,7 +11,8 @@ pub fn set_state(list: &mut [u8], symbol: [u8; 8], state: u8)
     requires { list_good list.old ≡ true }
     ensures { list.new ≡ with_state list.old symbol state }
 {
-    if let Some(i) = Listed::of(list).place_of(symbol) {
+    let listed = Listed { bytes: list };
+    if let Some(i) = listed.place_of(symbol) {
         list[PLACE_SIZE * i + SYMBOL_SIZE] = state;
     }
 }

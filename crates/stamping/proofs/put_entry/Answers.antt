@@ -5,8 +5,6 @@ use Rattle.stamping.proofs.put_entry.Goals as goal
 
 pub returns : goal.returns
 returns c =
-    let long = c in
-    let start = long in
-    let a = start.args in
-    front a.entry.now a.kind a.stamp a.body.now (search rules) start.requires long.put_byte.ensures
-    long.put_be64.ensures c.put_bytes.ensures
+    let a = c.args in
+    front a.entry.now a.kind a.stamp a.body.now (search rules) c.requires c.put_byte.ensures
+    c.put_be64.ensures c.put_bytes.ensures

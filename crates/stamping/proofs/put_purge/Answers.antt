@@ -7,39 +7,28 @@ use Rattle.stamping.proofs.put_purge.Goals as goal
 
 pub put_entry-requires : goal.put_entry-requires
 put_entry-requires c =
-    let start = c in
-    simp length-take (omega (arith, firm-fits start.args.message.now start.requires.0, start.requires.1))
+    simp length-take (omega (arith, firm-fits c.args.message.now c.requires.0, c.requires.1))
 
 pub put_bytes-requires : goal.put_bytes-requires
 put_bytes-requires c =
-    let typed = c in
-    let firm = typed in
-    let start = firm in
-    let a = start.args in
-    symbol-fits a.entry.now a.message.now a.kind a.stamp start.requires.0 (sym typed.first_byte.ensures ∙ typed.if-first_byte-eq77.true) start.requires.1 firm.put_entry.ensures
+    let a = c.args in
+    symbol-fits a.entry.now a.message.now a.kind a.stamp c.requires.0 (sym c.first_byte.ensures ∙ c.if-first_byte-eq77.true) c.requires.1 c.put_entry.ensures
 
 pub returns-then-first_byte-eq77 : goal.returns-then-first_byte-eq77
 returns-then-first_byte-eq77 c =
-    let typed = c in
-    let firm = typed in
-    let start = firm in
-    let a = start.args in
-    symbol-put a.entry.now a.message.now a.kind a.stamp start.requires.0 (sym typed.first_byte.ensures ∙ typed.if-first_byte-eq77.true) start.requires.1 firm.put_entry.ensures
+    let a = c.args in
+    symbol-put a.entry.now a.message.now a.kind a.stamp c.requires.0 (sym c.first_byte.ensures ∙ c.if-first_byte-eq77.true) c.requires.1 c.put_entry.ensures
     c.put_bytes.ensures
 
 pub returns-else-first_byte-eq77 : goal.returns-else-first_byte-eq77
 returns-else-first_byte-eq77 c =
-    let firm = c in
-    let a = firm.args in
-    firm.put_entry.ensures
+    let a = c.args in
+    c.put_entry.ensures
     ∙ ap (λ (l : List ℕ). put a.entry.now 0 (a.kind ∷ (digits 8 a.stamp ++ l))) (sym (firm-alone a.message.now (λ e. c.if-first_byte-eq77.false (c.first_byte.ensures ∙ e))))
 
 pub slice_bounds-put_entry-end : goal.slice_bounds-put_entry-end
-slice_bounds-put_entry-end c = let start = c in omega (arith, purge-long start.args.message.now start.requires.0)
+slice_bounds-put_entry-end c = omega (arith, purge-long c.args.message.now c.requires.0)
 
 pub slice_bounds-put_bytes-end : goal.slice_bounds-put_bytes-end
 slice_bounds-put_bytes-end c =
-    let typed = c in
-    let firm = typed in
-    let start = firm in
-    omega (arith, mass-long start.args.message.now start.requires.0 (sym typed.first_byte.ensures ∙ typed.if-first_byte-eq77.true))
+    omega (arith, mass-long c.args.message.now c.requires.0 (sym c.first_byte.ensures ∙ c.if-first_byte-eq77.true))

@@ -7,9 +7,9 @@ use Rattle.stamping.proofs.stamped.Goals as goal
 pub made-requires : goal.made-requires
 made-requires c =
     let heard = c.heard-answer in
-    sym heard.ensures ∙ is-done heard.result (answered c.is_done.ensures c.if-is_done.true)
+    sym heard.ensures ∙ is-done heard.result (answered c.is_done.ensures c.if-not-is_done.false)
 
-pub returns : goal.returns
-returns c =
+pub returns-then-not-is_done : goal.returns-then-not-is_done
+returns-then-not-is_done c =
     let a = c.args in
-    refused a.purge a.stamp a.message.now a.entry.now c.heard-answer.ensures (answered c.is_done.ensures c.if-is_done.false)
+    refused a.purge a.stamp a.message.now a.entry.now c.heard-answer.ensures (answered c.is_done.ensures c.if-not-is_done.true)
