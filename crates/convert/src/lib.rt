@@ -60,10 +60,8 @@ fn store_orders(old: &[u8], table: &mut [u8], n: usize)
 pub fn convert(old: &[u8], table: &mut [u8]) -> Answer
     ensures { (result ≡ convert_answer old.now (length table.old)) × (table.new ≡ converted old.now table.old) }
 {
-    let answer = convert_answer(old, table.len());
-    if answer.is_ok() {
-        carry(old, table);
-        store_orders(old, table, old_used(old));
-    }
-    answer
+    convert_answer(old, table.len())?;
+    carry(old, table);
+    store_orders(old, table, old_used(old));
+    Ok(())
 }

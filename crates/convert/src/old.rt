@@ -61,7 +61,7 @@ fn records_sound(old: &[u8]) -> bool
     requires { old_size_good old.now ≡ true }
     ensures { result ≡ all_below (old_used old.now) (λ i. record_sound (record_bytes old.now i)) }
 {
-    walk(old, old_used(old)).ok
+    walk(old, old_used(old)).is_some()
 }
 
 #[tactic(auto, unfolding(crate::specs::Old::old_sound))]

@@ -11,7 +11,7 @@ use orders::counts::{new_counts, open_shares};
 use orders::order::{Details, Kept, Order, Terms, is_used};
 use stocks::standing::{Standing, is_halted};
 use wire::letters::{is_capacity, is_cross, is_display};
-use wire::price::{Price, Priced};
+use wire::price::Price;
 use wire::shares::{Removed, Total};
 use wire::text::is_shaped;
 
@@ -47,7 +47,7 @@ fn bad_stock(stock: &[u8; 8], standing: Standing) -> bool
 fn fault_of_numbers(h: Header, e: EnterOrder) -> Result<Price, u8>
     ensures { result ≡ fault_of_numbers h e }
 {
-    let Priced::Good(price) = Price::new(e.price, e.cross) else {
+    let Some(price) = Price::new(e.price, e.cross) else {
         return Err(b'X');
     };
     if bad_shares(h, e.shares) {

@@ -11,7 +11,7 @@ use orders::counts::{gone_is_below, less_gone, open_shares, with_liable};
 use orders::flags::Flag;
 use orders::order::{Details, Order, is, is_live, is_used, killed};
 use stocks::standing::{Standing, is_halted};
-use wire::price::{Price, Priced};
+use wire::price::Price;
 
 fn bad_beside_price(h: Header, old: Order, e: ReplaceOrder) -> bool
     ensures { result ≡ bad_beside_price h old e }
@@ -61,8 +61,8 @@ fn replace_open(h: Header, old: Order, e: ReplaceOrder) -> Decision
         return canceled_whole(old);
     }
     match Price::new(e.price, old.details.kept.cross) {
-        Priced::Good(price) => replacing(killed(old), replacement_order(h, old, e, price)),
-        Priced::Bad => canceled_whole(old),
+        Some(price) => replacing(killed(old), replacement_order(h, old, e, price)),
+        None => canceled_whole(old),
     }
 }
 

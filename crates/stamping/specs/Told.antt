@@ -27,8 +27,8 @@ pub record TellsClient (m e : List ℕ) : Type 0 where
 pub record TellsPurge (m e : List ℕ) : Type 0 where
   pub purges : get_or m 0 0 ≡ mass_cancel.code
       → (kind_of e ≡ Purges) × (((purge_of e).firm ≡ (mass_cancel_of m).firm) × ((purge_of e).symbol ≡ (mass_cancel_of m).symbol))
-  pub disables : get_or m 0 0 ≡ disable.code → (kind_of e ≡ Disables) × ((blocking_of e).firm ≡ (order_entry_of m).firm)
-  pub enables : get_or m 0 0 ≡ enable.code → (kind_of e ≡ Enables) × ((blocking_of e).firm ≡ (order_entry_of m).firm)
+  pub disables : get_or m 0 0 ≡ disable.code → (kind_of e ≡ Disables) × ((blocking_of e).firm ≡ (order_entry_of {letter = disable.code} m).firm)
+  pub enables : get_or m 0 0 ≡ enable.code → (kind_of e ≡ Enables) × ((blocking_of e).firm ≡ (order_entry_of {letter = enable.code} m).firm)
 
 -- of every message that is let through, with every stamp that eight bytes hold
 pub record Told : Type 0 where

@@ -8,21 +8,22 @@ ghost use Rattle.answers.specs.Answer.{Done};
 ghost use Rattle.stamping.specs.Stamping.{heard, kind_for, body_for, stamp_answer, stamp_after};
 
 use answers::{Answer, Refusal};
+use inbound::cancel_order::CancelOrder;
+use inbound::enter_order::EnterOrder;
+use inbound::modify_order::ModifyOrder;
+use inbound::replace_order::ReplaceOrder;
 use octets::{put_be64, put_byte, put_bytes};
-use purge::mass_cancel::judge_mass_cancel;
-use purge::order_entry::{DISABLE, ENABLE, judge_order_entry};
+use purge::mass_cancel::MassCancel;
+use purge::order_entry::{Disable, Enable};
 use tape::kinds::entry_length;
-use wire::judge::judge;
-use wire::messages::{CANCEL_ORDER, ENTER_ORDER, MODIFY_ORDER, REPLACE_ORDER, first_byte};
+use wire::body::Body;
+use wire::messages::first_byte;
 
 // What the purge port took, or else a client's message to the host. Only a call that answers 0 changes anything.
 pub fn stamped(purge: bool, stamp: u64, message: &[u8], entry: &mut [u8]) -> Answer
     ensures { (result ≡ stamp_answer purge stamp message.now entry.old) × (entry.new ≡ stamp_after purge stamp message.now entry.old) }
 {
-    let answer = heard(purge, message);
-    if !answer.is_ok() {
-        return answer;
-    }
+    heard(purge, message)?;
     made(purge, stamp, message, entry)
 }
 
@@ -42,9 +43,9 @@ fn heard_by_purge(message: &[u8]) -> Answer
     ensures { result ≡ heard true message.now }
 {
     match message {
-        [b'M', ..] => judge_mass_cancel(message),
-        [b'D', ..] => judge_order_entry(message, DISABLE),
-        [b'E', ..] => judge_order_entry(message, ENABLE),
+        [b'M', ..] => MassCancel::judged(message),
+        [b'D', ..] => Disable::judged(message),
+        [b'E', ..] => Enable::judged(message),
         _ => Err(Refusal::Malformed),
     }
 }
@@ -54,10 +55,10 @@ fn heard_by_host(message: &[u8]) -> Answer
     ensures { result ≡ heard false message.now }
 {
     match message {
-        [b'O', ..] => judge(message, ENTER_ORDER),
-        [b'U', ..] => judge(message, REPLACE_ORDER),
-        [b'X', ..] => judge(message, CANCEL_ORDER),
-        [b'M', ..] => judge(message, MODIFY_ORDER),
+        [b'O', ..] => EnterOrder::judged(message),
+        [b'U', ..] => ReplaceOrder::judged(message),
+        [b'X', ..] => CancelOrder::judged(message),
+        [b'M', ..] => ModifyOrder::judged(message),
         _ => Err(Refusal::Malformed),
     }
 }

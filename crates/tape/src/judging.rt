@@ -23,7 +23,7 @@ pub fn judge(entry: &[u8]) -> Answer
     if !well_formed(entry, kind) {
         return Err(Refusal::Malformed);
     }
-    answer_for(first_bad(entry, kind), Ok(()))
+    unless_bad(first_bad(entry, kind))
 }
 
 // What is no kind has length 0, and no entry has.

@@ -26,4 +26,4 @@ loop-i-preserved c =
     let l = c.loop-i in
     let a = c.args in
     order-next a.old.now a.table.now _ l.i _ (c.store_order.ensures ∙ ap (λ (t : List ℕ). store_order t l.i c.order_of.result) l.invariant)
-    (c.order_of.ensures ∙ ap order_of c.record_at.ensures.0)
+    (c.order_of.ensures ∙ ap order_of c.record_at.ensures)

@@ -1,15 +1,16 @@
 -- A refused message answers, and nothing changes; of one that is let through the entry is made. Assumes nothing.
-use Rattle.octets.proofs.Proving.{◌∙◌, answered, sym}
-use Rattle.answers.proofs.Laws.{is-done}
+use Rattle.std.specs.Prelude.{Err}
+use Rattle.octets.proofs.Proving.{◌∙◌, ◌≡◌, refl, rules, sym}
+use Rattle.answers.specs.Answer.{is_done}
 use Rattle.stamping.proofs.Answers.{refused}
 use Rattle.stamping.proofs.stamped.Goals as goal
 
 pub made-requires : goal.made-requires
-made-requires c =
-    let heard = c.heard-answer in
-    sym heard.ensures ∙ is-done heard.result (answered c.is_done.ensures c.if-not-is_done.false)
+made-requires c = sym c.heard.ensures ∙ c.in_ok-heard.was
 
-pub returns-then-not-is_done : goal.returns-then-not-is_done
-returns-then-not-is_done c =
+pub returns-in_err-heard : goal.returns-in_err-heard
+unfolding is_done
+returns-in_err-heard c =
     let a = c.args in
-    refused a.purge a.stamp a.message.now a.entry.now c.heard-answer.ensures (answered c.is_done.ensures c.if-not-is_done.true)
+    let e : c.from_residual.result ≡ Err c.in_err-heard.field-0.0 = search rules in
+    rw e (refused a.purge a.stamp a.message.now a.entry.now (sym c.in_err-heard.was ∙ c.heard.ensures) refl)

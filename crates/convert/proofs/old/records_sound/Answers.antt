@@ -23,4 +23,4 @@ pub returns : goal.returns
 unfolding found_in
 returns c =
     let old = c.args.old.now in
-    ap (λ (f : Found). f.ok) c.walk.ensures ∙ ap (λ (n : ℕ). (found_in old n).ok) c.old_used.ensures
+    rw (c.is_some.ensures, c.walk.ensures, c.old_used.ensures) (whether-told (all_below (old_used old) (λ i. record_sound (record_bytes old i))) _)

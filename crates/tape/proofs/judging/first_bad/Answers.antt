@@ -19,9 +19,9 @@ unfolding bad_place_of
 returns c =
     let s = c.args.entry.now in
     let b = c.behind_of.ensures ∙ ap behind_of c.requires.0 in
-    behind (stamp_at 1) (judged_fields (behind_of (kind_of s))) s (omega arith) c.earlier.ensures c.bad_stamp.ensures
+    behind (stamp_at 1) (judged_fields (behind_of (kind_of s))) s c.or.ensures c.bad_stamp.ensures
     (rw b at c.bad_behind.ensures)
-    ∙ sym (ap place (judged (kind_of s) s (formed s c.requires.1).known))
+    ∙ sym (judged (kind_of s) s (formed s c.requires.1).known)
 
 pub bad_stamp-requires : goal.bad_stamp-requires
 bad_stamp-requires c = stamp-fits _ c.requires.1
