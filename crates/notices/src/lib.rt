@@ -40,7 +40,7 @@ fn silence() -> Sent
 }
 
 // Any of the messages, whole.
-fn whole<M: Written>(m: M) -> Sent
+fn sent_of<M: Written>(m: M) -> Sent
     ensures { result ≡ sent (M.Written.bytes m) }
 {
     Sent {
@@ -49,17 +49,19 @@ fn whole<M: Written>(m: M) -> Sent
     }
 }
 
-// What Accepted and Replaced state of a new order.
+// What Accepted and Replaced state of a new order. (An array goes into a literal by a variable of its own, here and below: the borrow checker asks it.)
 fn stated_order(o: Order) -> Stated
     ensures { result ≡ stated_order o }
 {
+    let stock = o.details.kept.stock;
+    let firm = o.details.kept.firm;
     Stated {
         side: o.side,
         shares: open_shares(o.shares),
-        stock: o.details.kept.stock,
+        stock,
         price: o.details.terms.price,
         time: o.details.terms.time,
-        firm: o.details.kept.firm,
+        firm,
         display: o.details.terms.display,
         reference: o.details.reference,
         capacity: o.details.kept.capacity,
@@ -73,9 +75,10 @@ fn stated_order(o: Order) -> Stated
 fn accepted_notice(stamp: u64, new: Order) -> Accepted
     ensures { result ≡ accepted_notice stamp new }
 {
+    let token = new.token;
     Accepted {
         stamp,
-        token: new.token,
+        token,
         order: stated_order(new),
         weight: b' ',
     }
@@ -84,11 +87,13 @@ fn accepted_notice(stamp: u64, new: Order) -> Accepted
 fn replaced_notice(stamp: u64, new: Order) -> Replaced
     ensures { result ≡ replaced_notice stamp new }
 {
+    let previous = new.details.previous;
+    let token = new.token;
     Replaced {
         stamp,
-        token: new.token,
+        token,
         order: stated_order(new),
-        previous: new.details.previous,
+        previous,
         weight: b' ',
     }
 }
@@ -96,9 +101,10 @@ fn replaced_notice(stamp: u64, new: Order) -> Replaced
 fn canceled_notice(stamp: u64, o: Order, decrement: Removed, reason: u8) -> Canceled
     ensures { result ≡ canceled_notice stamp o decrement reason }
 {
+    let token = o.token;
     Canceled {
         stamp,
-        token: o.token,
+        token,
         decrement,
         reason,
     }
@@ -107,9 +113,10 @@ fn canceled_notice(stamp: u64, o: Order, decrement: Removed, reason: u8) -> Canc
 fn self_match_notice(stamp: u64, o: Order, e: SelfMatch) -> AiqCancelled
     ensures { result ≡ self_match_notice stamp o e }
 {
+    let token = o.token;
     AiqCancelled {
         stamp,
-        token: o.token,
+        token,
         decrement: e.shares,
         reason: b'Q',
         prevented: e.prevented,
@@ -121,9 +128,10 @@ fn self_match_notice(stamp: u64, o: Order, e: SelfMatch) -> AiqCancelled
 fn executed_notice(stamp: u64, o: Order, e: Execution) -> Executed
     ensures { result ≡ executed_notice stamp o e }
 {
+    let token = o.token;
     Executed {
         stamp,
-        token: o.token,
+        token,
         shares: e.shares,
         price: e.price,
         flag: e.flag,
@@ -134,9 +142,10 @@ fn executed_notice(stamp: u64, o: Order, e: Execution) -> Executed
 fn rejected_notice(stamp: u64, new: Order, reason: u8) -> Rejected
     ensures { result ≡ rejected_notice stamp new reason }
 {
+    let token = new.token;
     Rejected {
         stamp,
-        token: new.token,
+        token,
         reason,
     }
 }
@@ -144,9 +153,10 @@ fn rejected_notice(stamp: u64, new: Order, reason: u8) -> Rejected
 fn priority_notice(stamp: u64, o: Order) -> PriorityUpdate
     ensures { result ≡ priority_notice stamp o }
 {
+    let token = o.token;
     PriorityUpdate {
         stamp,
-        token: o.token,
+        token,
         price: o.details.terms.price,
         display: o.details.terms.display,
         reference: o.details.reference,
@@ -156,9 +166,10 @@ fn priority_notice(stamp: u64, o: Order) -> PriorityUpdate
 fn modified_notice(stamp: u64, o: Order) -> Modified
     ensures { result ≡ modified_notice stamp o }
 {
+    let token = o.token;
     Modified {
         stamp,
-        token: o.token,
+        token,
         side: o.side,
         shares: open_shares(o.shares),
     }
@@ -168,25 +179,20 @@ fn modified_notice(stamp: u64, o: Order) -> Modified
 fn notice_sent(stamp: u64, o: Order, new: Order, notice: Notice) -> Sent
     ensures { result ≡ sent (notice_bytes stamp o new notice) }
 {
+    let token = o.token;
     match notice {
         Notice::Silent => silence(),
-        Notice::SystemEvent(event) => whole(SystemEvent { stamp, event }),
-        Notice::Accepted => whole(accepted_notice(stamp, new)),
-        Notice::Replaced => whole(replaced_notice(stamp, new)),
-        Notice::Canceled(by, reason) => whole(canceled_notice(stamp, o, by, reason)),
-        Notice::AiqCancelled(e) => whole(self_match_notice(stamp, o, e)),
-        Notice::Executed(e) => whole(executed_notice(stamp, o, e)),
-        Notice::Rejected(reason) => whole(rejected_notice(stamp, new, reason)),
-        Notice::CancelPending => whole(CancelPending {
-            stamp,
-            token: o.token,
-        }),
-        Notice::CancelReject => whole(CancelReject {
-            stamp,
-            token: o.token,
-        }),
-        Notice::PriorityUpdate => whole(priority_notice(stamp, o)),
-        Notice::Modified => whole(modified_notice(stamp, o)),
+        Notice::SystemEvent(event) => sent_of(SystemEvent { stamp, event }),
+        Notice::Accepted => sent_of(accepted_notice(stamp, new)),
+        Notice::Replaced => sent_of(replaced_notice(stamp, new)),
+        Notice::Canceled(by, reason) => sent_of(canceled_notice(stamp, o, by, reason)),
+        Notice::AiqCancelled(e) => sent_of(self_match_notice(stamp, o, e)),
+        Notice::Executed(e) => sent_of(executed_notice(stamp, o, e)),
+        Notice::Rejected(reason) => sent_of(rejected_notice(stamp, new, reason)),
+        Notice::CancelPending => sent_of(CancelPending { stamp, token }),
+        Notice::CancelReject => sent_of(CancelReject { stamp, token }),
+        Notice::PriorityUpdate => sent_of(priority_notice(stamp, o)),
+        Notice::Modified => sent_of(modified_notice(stamp, o)),
     }
 }
 

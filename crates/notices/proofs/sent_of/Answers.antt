@@ -1,6 +1,6 @@
 -- What is spelled is sent whole, at its length. Assumes nothing.
 use Rattle.notices.proofs.Whole.{whole}
-use Rattle.notices.proofs.whole.Goals as goal
+use Rattle.notices.proofs.sent_of.Goals as goal
 
 pub returns : goal.returns
 returns g c = whole _ c.spell.ensures c.size.ensures.0
