@@ -93,12 +93,12 @@ pub(crate) fn commit(table: &mut [u8], h: Header, place: usize, stamp: u64, plan
     store_header(table, header_after(h, stamp, plan));
 }
 
-// A stock of state 0 stands for none, and no state is set.
-pub(crate) fn set_if(stocks: &mut [u8], stock: StockState)
+// The state of a stock, where there is one.
+pub(crate) fn set_if(stocks: &mut [u8], stock: Option<StockState>)
     requires { list_good stocks.old ≡ true }
     ensures { stocks.new ≡ set_if stocks.old stock }
 {
-    if stock.state != 0 {
+    if let Some(stock) = stock {
         set_state(stocks, stock.symbol, stock.state);
     }
 }
