@@ -1,6 +1,6 @@
 -- One step: from the table's, the ring's, the list's and the entry's bytes to the answer and what is there afterwards. The checks stand in the order of
 -- the answer numbers, and nothing is written before the last of them (Answer numbers, in order of checking).
-use Rattle.std.specs.Prelude.{ℕ, ◌+◌, ◌≡◌, Bool, true, false, not, ◌&&◌, ◌||◌, List, length, leb, ltb, eqb}
+use Rattle.std.specs.Prelude.{ℕ, ◌+◌, ◌≡◌, Bool, true, false, not, ◌&&◌, ◌||◌, List, length, leb, ltb, eqb, Option, Some, None}
 use Rattle.octets.specs.Choice.{pick, first_of◌, ◌⇒◌⨾◌}
 use Rattle.answers.specs.Answer.{is_done}
 use Rattle.orders.specs.Order.{is_used}
@@ -121,9 +121,10 @@ committed t place stamp p =
     let added = store_if changed (header t).used p.added in
     store_header added (header_after (header t) stamp p)
 
--- no_stock says that no state is set
-unfoldable pub set_if : List ℕ → StockState → List ℕ
-set_if l e = pick (eqb e.state 0) l (with_state l e.symbol e.state)
+-- the state of a stock, where there is one
+unfoldable pub set_if : List ℕ → Option StockState → List ℕ
+set_if l None = l
+set_if l (Some e) = with_state l e.symbol e.state
 
 unfoldable pub books_after : Books → ℕ → ℕ → Plan → Books
 books_after b place stamp p = record { table = committed b.table place stamp p; stocks = set_if b.stocks p.stock }

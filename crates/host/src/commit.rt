@@ -29,9 +29,8 @@ fn day_after(day: u8, begins: Begins) -> u8
     ensures { result ≡ day_after day begins }
 {
     match begins {
-        Begins::Nothing => day,
         Begins::Day(begun) => begun,
-        Begins::Block(_, _) => day,
+        Begins::Nothing | Begins::Block(_, _) => day,
     }
 }
 
@@ -40,32 +39,9 @@ fn blocked_after(h: Header, begins: Begins) -> u8
     ensures { result ≡ blocked_after h begins }
 {
     match begins {
-        Begins::Nothing => h.blocked,
-        Begins::Day(_) => h.blocked,
         Begins::Block(place, on) => blocked_with(h, place, on),
+        Begins::Nothing | Begins::Day(_) => h.blocked,
     }
-}
-
-// One more record is used, or none.
-fn counted(used: u32, more: bool) -> u32
-    requires { used ≤ most_records }
-    ensures { result ≡ used + one_if more }
-{
-    if more {
-        return used + 1;
-    }
-    used
-}
-
-// One more reference is taken, or none.
-fn numbered(reference: u64, more: bool) -> u64
-    requires { reference ≤ end_of_references }
-    ensures { result ≡ reference + one_if more }
-{
-    if more {
-        return reference + 1;
-    }
-    reference
 }
 
 // The header after a done entry: its stamp, and what the plan begins, uses and takes.
@@ -76,9 +52,9 @@ fn header_after(h: Header, stamp: u64, plan: Plan) -> Header
     Header {
         day: day_after(h.day, plan.begins),
         blocked: blocked_after(h, plan.begins),
-        used: counted(h.used, is_used(plan.added)),
+        used: h.used + u32::from(is_used(plan.added)),
         last: stamp,
-        reference: numbered(h.reference, plan.numbered),
+        reference: h.reference + u64::from(plan.numbered),
         ..h
     }
 }
@@ -93,12 +69,12 @@ pub(crate) fn commit(table: &mut [u8], h: Header, place: usize, stamp: u64, plan
     store_header(table, header_after(h, stamp, plan));
 }
 
-// A stock of state 0 stands for none, and no state is set.
-pub(crate) fn set_if(stocks: &mut [u8], stock: StockState)
+// The state of a stock, where there is one.
+pub(crate) fn set_if(stocks: &mut [u8], stock: Option<StockState>)
     requires { list_good stocks.old ≡ true }
     ensures { stocks.new ≡ set_if stocks.old stock }
 {
-    if stock.state != 0 {
+    if let Some(stock) = stock {
         set_state(stocks, stock.symbol, stock.state);
     }
 }

@@ -1,7 +1,7 @@
 -- What is known of an entry that comes to something done: it is legal, a record and a reference are left where they are needed, and its plan
 -- keeps what the rules keep. Assumes nothing.
-use Rattle.octets.proofs.Proving.{Bool, List, ◌&&◌, ◌+◌, ◌<◌, ◌||◌, ◌∙◌, ◌∷◌, ◌≡◌, ◌≢◌, ◌≤◌, ◌⊎◌, ap, arith, drop, drop-drop, eqb, false, false≢true, guard, inl, inr, le-leb, length, length-drop, ltb, ltb-true, not, not-false, not-true, or_left, or_right, refl, replicate, subst, sym, take, true, ℕ}
-use Rattle.std.specs.Prelude.{Option, None, Some}
+use Rattle.std.specs.Prelude.{None}
+use Rattle.octets.proofs.Proving.{Bool, List, Option, ◌&&◌, ◌+◌, ◌<◌, ◌||◌, ◌∙◌, ◌∷◌, ◌≡◌, ◌≢◌, ◌≤◌, ◌⊎◌, ap, arith, drop, drop-drop, eqb, false, false≢true, guard, inl, inr, le-leb, length, length-drop, ltb, ltb-true, none, not, not-false, not-true, or_left, or_right, refl, replicate, some, subst, sym, take, true, ℕ}
 use Rattle.octets.specs.Choice.{◌⇒◌⨾◌, all_below, among}
 use Rattle.octets.specs.Bytes.{part}
 use Rattle.octets.proofs.Laws.{length_part}
@@ -23,7 +23,7 @@ use Rattle.tape.specs.Entries.{well_formed, bad_place_of, entry_answer, names_or
 use Rattle.tape.proofs.Formed.{formed, long_as, judged}
 use Rattle.inbound.specs.Inbound.{enter_order_of, replace_order_of}
 use Rattle.stocks.specs.Stocks.{standing_in}
-use Rattle.rules.specs.Plan.{answer_of, plan_of, no_stock, refused}
+use Rattle.rules.specs.Plan.{answer_of, plan_of, refused}
 use Rattle.rules.specs.Enter.{enter_rule}
 use Rattle.rules.specs.Replace.{replace_rule}
 use Rattle.rules.proofs.Refused.{refused-answer}
@@ -267,7 +267,7 @@ module _ (books : Books) (s : List ℕ) (ok : Sound books.table) (legal : entry_
   decided-by k e = ap (λ (x : Kind). decide_by x h named found books.stocks s) e
 
   -- another kind than h sets no stock's state
-  pub decide-quiet : kind_of s ≢ SetsStock → (plan_of (decide books s)).stock ≡ no_stock
+  pub decide-quiet : kind_of s ≢ SetsStock → (plan_of (decide books s)).stock ≡ None
   unfolding decide
   decide-quiet n = (by_kind (kind_of s) n refl).1.1.quiet
 

@@ -22,15 +22,6 @@ use Rattle.laws.proofs.Steps.{Does, done-does, either, comes}
 
 -- ---- a done h
 
--- 0 is no state
-state-set : (l : List ℕ) (e : StockState) → among stock_states e.state ≡ true → set_if l e ≡ with_state l e.symbol e.state
-unfolding set_if among
-state-set l e known = by (eqb e.state 0) refl
-  where
-    by : (b : Bool) → eqb e.state 0 ≡ b → pick b l (with_state l e.symbol e.state) ≡ with_state l e.symbol e.state
-    by true z = absurd (false≢true (sym (ap (among stock_states) (eqb-true e.state 0 z)) ∙ known))
-    by false z = refl
-
 module _ (books : Books) (s : List ℕ) (ok : sound books.table ≡ true) (done : is_done (answer_of (comes_to books s)) ≡ true) where
   abbrev l : List ℕ
   l = books.stocks
@@ -68,10 +59,8 @@ module _ (books : Books) (s : List ℕ) (ok : sound books.table ≡ true) (done 
       record { listed = r.0; plans = is ∙ r.1 }
 
   set_to : kind_of s ≡ SetsStock → set_if l (plan_of (comes_to books s)).stock ≡ with_state l e.symbol e.state
-  unfolding setting
-  set_to halt =
-      ap (λ (d : Decision). set_if l (plan_of d).stock) (sets halt).plans
-      ∙ state-set l e (state-legal s (passed books s done).legal halt)
+  unfolding set_if setting
+  set_to halt = ap (λ (d : Decision). set_if l (plan_of d).stock) (sets halt).plans
 
   silent : kind_of s ≡ SetsStock → message (stamp_of s) (plan_of (comes_to books s)) ≡ []
   unfolding message notice_bytes setting

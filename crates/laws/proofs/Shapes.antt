@@ -1,6 +1,6 @@
 -- The shapes that a plan may have, and what every decision of the rules keeps; first each kind of plan, then each change of a live order.
 -- Assumes nothing.
-use Rattle.std.specs.Prelude.{Ok, Err}
+use Rattle.std.specs.Prelude.{None, Ok, Err}
 use Rattle.octets.proofs.Proving.{Bool, List, ◌&&◌, ◌+◌, ◌-◌, ◌≡◌, ◌≤◌, arith, eqb, false, inl, length, not, refl, true, ℕ}
 use Rattle.octets.specs.Bytes.{zeros}
 use Rattle.answers.specs.Answer.{answer_number}
@@ -12,7 +12,7 @@ use Rattle.orders.specs.Counts.{gone, open_shares, cut, with_liable}
 use Rattle.orders.specs.Order.{is_live, is_used, no_order, rejected_order, dead_if_spent, with_flags, with_side, killed}
 use Rattle.orders.specs.declared.counts.Counts.{Counts}
 use Rattle.orders.proofs.Standing.{Live}
-use Rattle.rules.specs.Plan.{answer_of, plan_of, no_stock, refused, changing, renumbering, accepting, replacing as replacing_by, rejecting, beginning, blocking, setting}
+use Rattle.rules.specs.Plan.{answer_of, plan_of, refused, changing, renumbering, accepting, replacing as replacing_by, rejecting, beginning, blocking, setting}
 use Rattle.laws.specs.Blocked.{is_blocked}
 use Rattle.laws.specs.Cancels.{executions_plus_open}
 use Rattle.laws.proofs.Types.{Answer, Order, Plan, StockState, Decision, Begins, Nothing, Day, Block, Notice, Silent, SystemEvent, Accepted, Replaced, Canceled, AiqCancelled, Executed, Rejected, CancelPending, CancelReject, PriorityUpdate, Modified}
@@ -123,7 +123,7 @@ pub record Orderly (named found : Order) (token : List ℕ) (d : Decision) : Typ
 -- and every one but h's: no state of a stock is set
 pub record Keeps (named found : Order) (token : List ℕ) (d : Decision) : Type 0 where
   pub orderly : Orderly named found token d
-  pub quiet : (plan_of d).stock ≡ no_stock
+  pub quiet : (plan_of d).stock ≡ None
 
 module _ {named found : Order} {token : List ℕ} where
   pub refused-keeps : (answer : Answer) → of_rules answer ≡ true → Keeps named found token (refused answer)

@@ -4,20 +4,16 @@
 --     added     what the first free record holds afterwards; no_order if it stays free
 --     numbered  whether the order that is changed or added has taken the next reference
 --     notice    what is told
---     stock     a listed stock and its state afterwards; no_stock if every stock stays as it is (Ask 2)
-use Rattle.std.specs.Prelude.{ℕ, Bool, true, false, List, Ok, Err}
+--     stock     a listed stock and its state afterwards; None if every stock stays as it is (Ask 2)
+use Rattle.std.specs.Prelude.{ℕ, Bool, true, false, List, Some, None, Ok, Err}
 use Rattle.answers.specs.Answer.{is_done}
-use Rattle.octets.specs.Bytes.{zeros}
 use Rattle.octets.specs.Choice.{first_of◌, ◌⇒◌⨾◌}
 use Rattle.orders.specs.Order.{no_order, rejected_order}
 use Rattle.rules.specs.Types.{Order, Answer, Plan, Nothing, Day, Block, StockState, Decision, Notice, Silent, Rejected, Accepted, Replaced, SystemEvent, Done, Ignored}
 
-abbrev pub no_stock : StockState
-no_stock = record { symbol = zeros 8; state = 0 }
-
 -- nothing changes and nothing is told
 abbrev pub empty_plan : Plan
-empty_plan = record { begins = Nothing; changed = no_order; added = no_order; numbered = false; notice = Silent; stock = no_stock }
+empty_plan = record { begins = Nothing; changed = no_order; added = no_order; numbered = false; notice = Silent; stock = None }
 
 -- ---- a decision's answer, and its plan: the empty one where it is a refusal
 
@@ -79,4 +75,4 @@ blocking place on = Ok (record empty_plan { begins = Block place on })
 
 -- a stock's state, and nothing is sent (Ask 2)
 unfoldable pub setting : StockState → Decision
-setting e = Ok (record empty_plan { stock = e })
+setting e = Ok (record empty_plan { stock = Some e })

@@ -1,6 +1,6 @@
 // What a rule decides: a plan, or why the entry is refused. The rules know neither bytes nor the ring: a plan is values only.
 ghost use Rattle.std.specs.Prelude.{◌≡◌};
-ghost use Rattle.rules.specs.Plan.{no_stock, empty_plan, changing, renumbering, accepting, replacing, rejecting, beginning, blocking, setting};
+ghost use Rattle.rules.specs.Plan.{empty_plan, changing, renumbering, accepting, replacing, rejecting, beginning, blocking, setting};
 
 use answers::Refusal;
 use orders::order::{Order, no_order, rejected_order};
@@ -33,7 +33,8 @@ pub enum Begins {
     Block(usize, bool),
 }
 
-// All that a done entry changes beside the last stamp. An order of state 0 stands for none, and so does a stock.
+// All that a done entry changes beside the last stamp. An order of state 0 stands for none: so the message reads the orders straight, and the laws'
+// `Shape` speaks of both in every plan.
 #[derive(Clone, Copy)]
 pub struct Plan {
     pub begins: Begins,
@@ -45,20 +46,11 @@ pub struct Plan {
     pub numbered: bool,
     pub notice: Notice,
     // a listed stock and its state from now on; none if every stock stays as it is
-    pub stock: StockState,
+    pub stock: Option<StockState>,
 }
 
 // A refusal has no plan, so nobody can carry out what was refused.
 pub type Decision = Result<Plan, Refusal>;
-
-fn no_stock() -> StockState
-    ensures { result ≡ no_stock }
-{
-    StockState {
-        symbol: [0u8; 8],
-        state: 0,
-    }
-}
 
 // Nothing changes and nothing is told. Each plan below says in what it differs from this one.
 fn empty_plan() -> Plan
@@ -70,7 +62,7 @@ fn empty_plan() -> Plan
         added: no_order(),
         numbered: false,
         notice: Notice::Silent,
-        stock: no_stock(),
+        stock: None,
     }
 }
 
@@ -154,7 +146,7 @@ pub fn setting(e: StockState) -> Decision
     ensures { result ≡ setting e }
 {
     Ok(Plan {
-        stock: e,
+        stock: Some(e),
         ..empty_plan()
     })
 }
