@@ -3,7 +3,6 @@ use Rattle.octets.proofs.Proving.{List, ap₂, ℕ}
 use denote.Ref.{MutBor}
 use Rattle.octets.proofs.Settles.{Settles, one-result, one-pair}
 use Rattle.host.specs.Types.{Answer, Marks}
-use Rattle.host.specs.declared.step.Stepped.{Stepped}
 use Rattle.host.specs.Step.{Outcome, Leaves}
 use Rattle.host.proofs as host
 
@@ -11,9 +10,10 @@ use Rattle.host.proofs as host
 abbrev Seen : Type 0
 Seen = ((Answer × Marks) × (List ℕ × List ℕ)) × List ℕ
 
-one-outcome : {M E : Type 0} {o : Outcome} → Settles {Z = Stepped} {E = MutBor (List ℕ) × (MutBor (List ℕ) × (M × (MutBor (List ℕ) × E)))} {X = Seen}
-    (λ z e. Leaves o z.answer z.marks e.0.now e.1.0.now e.1.1.1.0.now)
-    (λ z e. (((z.answer, z.marks), (e.0.now, e.1.0.now)), e.1.1.1.0.now))
+one-outcome : {E : Type 0} {o : Outcome}
+    → Settles {Z = Answer} {E = MutBor (List ℕ) × (MutBor (List ℕ) × (MutBor Marks × (MutBor (List ℕ) × E)))} {X = Seen}
+    (λ z e. Leaves o z e.1.1.0.now e.0.now e.1.0.now e.1.1.1.0.now)
+    (λ z e. (((z, e.1.1.0.now), (e.0.now, e.1.0.now)), e.1.1.1.0.now))
 one-outcome z z' e e' l k =
     ap₂ (λ (x : (Answer × Marks) × (List ℕ × List ℕ)) (y : List ℕ). (x, y))
     (ap₂ (λ (x : Answer × Marks) (y : List ℕ × List ℕ). (x, y))
@@ -21,8 +21,8 @@ one-outcome z z' e e' l k =
     (one-pair (l.tabled, l.ringed) (k.tabled, k.ringed)))
     (one-result l.listed k.listed)
 
-pub step-unique : (κs : _) (a : _) → Settles {X = Seen} (host.step.step.Reads.Post κs a) (λ z e. (((z.answer, z.marks), (e.0.now, e.1.0.now)), e.1.1.1.0.now))
+pub step-unique : (κs : _) (a : _) → Settles {X = Seen} (host.step.step.Reads.Post κs a) (λ z e. (((z, e.1.1.0.now), (e.0.now, e.1.0.now)), e.1.1.1.0.now))
 step-unique κs a = one-outcome
 
-pub offer-unique : (κs : _) (a : _) → Settles {X = Seen} (host.step.offer.Reads.Post κs a) (λ z e. (((z.answer, z.marks), (e.0.now, e.1.0.now)), e.1.1.1.0.now))
+pub offer-unique : (κs : _) (a : _) → Settles {X = Seen} (host.step.offer.Reads.Post κs a) (λ z e. (((z, e.1.1.0.now), (e.0.now, e.1.0.now)), e.1.1.1.0.now))
 offer-unique κs a = one-outcome

@@ -26,41 +26,24 @@ use table::sound::sound;
 use tape::judging::judge;
 use tape::reading::{names_order, purge_of, purges, stamp_of, token_of};
 
-// What a step answers, with the marks after it.
-#[derive(Clone, Copy)]
-pub struct Stepped {
-    pub answer: Answer,
-    pub marks: Marks,
-}
-
-// A refusal leaves the marks as they are.
-fn refused(refusal: Refusal, marks: Marks) -> Stepped
-    ensures { result ≡ record { answer = Err refusal; marks = marks } }
-{
-    Stepped {
-        answer: Err(refusal),
-        marks,
-    }
-}
-
-// The call that a driver makes for each entry. Table, ring and list are lent, and judged first: no caller has to check anything.
+// The call that a driver makes for each entry. Table, ring, marks and list are lent, and judged first: no caller has to check anything.
 pub fn step(
     table: &mut [u8],
     ring: &mut [u8],
-    marks: Marks,
+    marks: &mut Marks,
     stocks: &mut [u8],
     entry: &[u8],
-) -> Stepped
-    ensures { Leaves (step (world table.old ring.old marks stocks.old) entry.now) result.answer result.marks table.new ring.new stocks.new }
+) -> Answer
+    ensures { Leaves (step (world table.old ring.old marks.old stocks.old) entry.now) result marks.new table.new ring.new stocks.new }
 {
     if !sound(table) {
-        return refused(Refusal::NotSound, marks);
+        return Err(Refusal::NotSound);
     }
-    if !ring_good(ring.len(), marks) {
-        return refused(Refusal::WrongRing, marks);
+    if !ring_good(ring.len(), *marks) {
+        return Err(Refusal::WrongRing);
     }
     if !list_good(stocks) {
-        return refused(Refusal::WrongStocks, marks);
+        return Err(Refusal::WrongStocks);
     }
     offer(table, ring, marks, stocks, entry)
 }
@@ -69,28 +52,32 @@ pub fn step(
 pub fn offer(
     table: &mut [u8],
     ring: &mut [u8],
-    marks: Marks,
+    marks: &mut Marks,
     stocks: &mut [u8],
     entry: &[u8],
-) -> Stepped
-    requires { (sound table.old ≡ true) × ((ring_good (length ring.old) marks ≡ true) × (list_good stocks.old ≡ true)) }
-    ensures { Leaves (offer (world table.old ring.old marks stocks.old) entry.now) result.answer result.marks table.new ring.new stocks.new }
+) -> Answer
+    requires { (sound table.old ≡ true) × ((ring_good (length ring.old) marks.old ≡ true) × (list_good stocks.old ≡ true)) }
+    ensures { Leaves (offer (world table.old ring.old marks.old stocks.old) entry.now) result marks.new table.new ring.new stocks.new }
 {
-    match judge(entry) {
-        Ok(()) => take(table, ring, marks, stocks, entry),
-        Err(refusal) => refused(refusal, marks),
-    }
+    judge(entry)?;
+    take(table, ring, marks, stocks, entry)
 }
 
 // A legal entry: in time or not, and then what it comes to.
-fn take(table: &mut [u8], ring: &mut [u8], marks: Marks, stocks: &mut [u8], entry: &[u8]) -> Stepped
-    requires { (sound table.old ≡ true) × ((ring_good (length ring.old) marks ≡ true) × ((list_good stocks.old ≡ true) × (entry_answer entry.now ≡ Done))) }
-    ensures { Leaves (offer (world table.old ring.old marks stocks.old) entry.now) result.answer result.marks table.new ring.new stocks.new }
+fn take(
+    table: &mut [u8],
+    ring: &mut [u8],
+    marks: &mut Marks,
+    stocks: &mut [u8],
+    entry: &[u8],
+) -> Answer
+    requires { (sound table.old ≡ true) × ((ring_good (length ring.old) marks.old ≡ true) × ((list_good stocks.old ≡ true) × (entry_answer entry.now ≡ Done))) }
+    ensures { Leaves (offer (world table.old ring.old marks.old stocks.old) entry.now) result marks.new table.new ring.new stocks.new }
 {
     let h = header(table);
     let stamp = stamp_of(entry);
     if stamp < h.last {
-        return refused(Refusal::TooEarly, marks);
+        return Err(Refusal::TooEarly);
     }
     let place = named_place(table, entry);
     let d = comes_to(table, stocks, entry, h, place);
@@ -115,53 +102,49 @@ fn named_place(table: &[u8], entry: &[u8]) -> usize
 fn settle(
     table: &mut [u8],
     ring: &mut [u8],
-    marks: Marks,
+    marks: &mut Marks,
     stocks: &mut [u8],
     h: Header,
     place: usize,
     stamp: u64,
     d: Decision,
-) -> Stepped
-    requires { (ring_good (length ring.old) marks ≡ true) × ((list_good stocks.old ≡ true) × ((h ≡ header table.old) × ((h.used ≤ most_records) × (h.reference ≤ end_of_references)))) }
-    ensures { Leaves (settle (world table.old ring.old marks stocks.old) place stamp d) result.answer result.marks table.new ring.new stocks.new }
+) -> Answer
+    requires { (ring_good (length ring.old) marks.old ≡ true) × ((list_good stocks.old ≡ true) × ((h ≡ header table.old) × ((h.used ≤ most_records) × (h.reference ≤ end_of_references)))) }
+    ensures { Leaves (settle (world table.old ring.old marks.old stocks.old) place stamp d) result marks.new table.new ring.new stocks.new }
 {
-    match d {
-        Ok(plan) => carry_out(table, ring, marks, stocks, h, place, stamp, plan),
-        Err(refusal) => refused(refusal, marks),
-    }
+    let plan = d?;
+    carry_out(table, ring, marks, stocks, h, place, stamp, plan)
 }
 
 // The one place where room is asked for. What follows the question is all writing.
 fn carry_out(
     table: &mut [u8],
     ring: &mut [u8],
-    marks: Marks,
+    marks: &mut Marks,
     stocks: &mut [u8],
     h: Header,
     place: usize,
     stamp: u64,
     plan: Plan,
-) -> Stepped
-    requires { (ring_good (length ring.old) marks ≡ true) × ((list_good stocks.old ≡ true) × ((h ≡ header table.old) × ((h.used ≤ most_records) × (h.reference ≤ end_of_references)))) }
-    ensures { Leaves (carried_out (world table.old ring.old marks stocks.old) place stamp plan) result.answer result.marks table.new ring.new stocks.new }
+) -> Answer
+    requires { (ring_good (length ring.old) marks.old ≡ true) × ((list_good stocks.old ≡ true) × ((h ≡ header table.old) × ((h.used ≤ most_records) × (h.reference ≤ end_of_references)))) }
+    ensures { Leaves (carried_out (world table.old ring.old marks.old stocks.old) place stamp plan) result marks.new table.new ring.new stocks.new }
 {
     let sent = message(stamp, plan);
     if ring.len() - marks.held < sent.len {
-        return refused(Refusal::Blocked, marks);
+        return Err(Refusal::Blocked);
     }
     commit(table, h, place, stamp, plan);
     set_if(stocks, plan.stock);
-    let after = append_front(ring, marks, &sent.bytes, sent.len);
-    Stepped {
-        answer: Ok(()),
-        marks: after,
-    }
+    append_front(ring, marks, &sent.bytes, sent.len);
+    Ok(())
 }
 
 // The first `len` bytes go behind the held ones.
-fn append_front(ring: &mut [u8], marks: Marks, bytes: &[u8], len: usize) -> Marks
-    requires { (ring_good (length ring.old) marks ≡ true) × ((len ≤ free_bytes (length ring.old) marks) × (len ≤ length bytes.now)) }
-    ensures { (result ≡ marks_with marks len) × (ring.new ≡ ring_with ring.old marks (take len bytes.now)) }
+fn append_front(ring: &mut [u8], marks: &mut Marks, bytes: &[u8], len: usize)
+    requires { (ring_good (length ring.old) marks.old ≡ true) × ((len ≤ free_bytes (length ring.old) marks.old) × (len ≤ length bytes.now)) }
+    ensures marks_after { marks.new ≡ marks_with marks.old len }
+    ensures ring_after { ring.new ≡ ring_with ring.old marks.old (take len bytes.now) }
 {
-    append(ring, marks, &bytes[..len])
+    append(ring, marks, &bytes[..len]);
 }

@@ -51,20 +51,13 @@ pub fn pq_step(
 ) -> u8
     ensures { Left (step (world table.old ring.old (marks at.old held.old) stocks.old) entry.now) result place.new table.new ring.new (marks at.new held.new) stocks.new }
 {
-    let stepped = step(
-        table,
-        ring,
-        Marks {
-            at: *at,
-            held: *held,
-        },
-        stocks,
-        entry,
-    );
-    let after = stepped.marks;
-    *at = after.at;
-    *held = after.held;
-    let answer = stepped.answer;
+    let mut marks = Marks {
+        at: *at,
+        held: *held,
+    };
+    let answer = step(table, ring, &mut marks, stocks, entry);
+    *at = marks.at;
+    *held = marks.held;
     *place = answers::place(answer);
     number(answer)
 }

@@ -13,8 +13,7 @@ stamp_of-stamp-requires c = stamp-fits _ (judged-good _ c.requires.1.1.1).0
 pub returns-then-stamp-h : goal.returns-then-stamp-h
 returns-then-stamp-h c =
     let last = ap (λ (q : Header). q.last) c.header-h.ensures in
-    rw c.refused.ensures
-    (early-leaves (world c.args.table.now c.args.ring.now c.args.marks c.args.stocks.now) _ c.requires.1.1.1
+    (early-leaves (world c.args.table.now c.args.ring.now c.args.marks.now c.args.stocks.now) _ c.requires.1.1.1
     (omega (arith, c.stamp_of-stamp.ensures, last, c.if-stamp-h.true)))
 
 pub named_place-place-requires : goal.named_place-place-requires
@@ -39,6 +38,6 @@ settle-requires c =
 pub returns : goal.returns
 returns c =
     let last = ap (λ (x : Header). x.last) c.header-h.ensures in
-    settled-leaves (world c.args.table.now c.args.ring.now c.args.marks c.args.stocks.now) _ c.requires.1.1.1
+    settled-leaves (world c.args.table.now c.args.ring.now c.args.marks.now c.args.stocks.now) _ c.requires.1.1.1
     (omega (arith, c.stamp_of-stamp.ensures, last, c.if-stamp-h.false)) c.named_place-place.ensures c.stamp_of-stamp.ensures c.comes_to-d.ensures
     c.settle.ensures
