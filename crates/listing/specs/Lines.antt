@@ -4,7 +4,7 @@ use Prim.Native.Char.{code}
 use Rattle.io.specs.Digits.{last_digits}
 use Rattle.octets.specs.Choice.{pick, text}
 use Rattle.octets.specs.Bytes.{joined}
-pub use Rattle.listing.specs.declared.lines.Shown.{Shown}
+pub use Rattle.listing.specs.declared.shown.Shown.{Shown}
 
 -- how many decimal digits hold n, where `more` above the first are enough
 unfoldable pub places_within : ℕ → ℕ → ℕ

@@ -5,4 +5,5 @@ pub mod clock;
 pub mod drawing;
 pub mod lines;
 pub mod price;
+mod shown;
 mod text;

@@ -3,19 +3,10 @@ ghost use Rattle.std.specs.Prelude.{◌≡◌, ◌<◌};
 ghost use Rattle.io.specs.Digits.{hex_digit_ascii};
 ghost use Rattle.listing.specs.Lines.{line, type_shown, last_line, Shows, in_hex};
 
+pub use crate::shown::Shown;
 use crate::text::blank;
 
 pub const FIRST_LINE: [u8; 23] = *b"entry kind answer sent\n";
-
-// The longest line is the drawing's, with its three numbers.
-pub(crate) const WIDTH: usize = 144;
-
-// A line is the first `len` of the bytes.
-#[derive(Clone, Copy)]
-pub struct Shown {
-    pub bytes: [u8; WIDTH],
-    pub len: usize,
-}
 
 // The sixteen letters that half a byte is shown in.
 const SIXTEEN: [u8; 16] = *b"0123456789abcdef";

@@ -2,7 +2,7 @@
 ghost use Rattle.std.specs.Prelude.{[], ◌++◌, ◌+◌, ◌≤◌, length};
 ghost use Rattle.listing.specs.Lines.{decimal, Fits, Adds, Says};
 
-use crate::lines::{Shown, WIDTH};
+use crate::shown::{Shown, WIDTH};
 
 pub(crate) fn blank() -> Shown
     ensures { Says result [] }

@@ -12,13 +12,13 @@
 mod printing;
 
 ghost use Rattle.std.specs.Prelude.{◌-◌, ◌≤◌};
-ghost use Rattle.words.specs.Words.{Allowed, Roomy};
+ghost use Rattle.words.specs.Words.{Allowed};
 
 use crate::printing::{drain, draw, print, taken_from};
 use answers::number;
 use feed::pieces::Pieces;
 use feed::{Feed, again, begin, next, piece};
-use host::step::step;
+use host::step::{Stepped, step};
 use listing::lines::{FIRST_LINE, last_line, line, type_shown};
 use outbox::marks::{LONGEST_RING, Marks};
 use outbox::read::read;
@@ -48,25 +48,23 @@ struct Tally {
     blocked: bool,
 }
 
-// One offer is played, its line is shown and, where that is asked for, the ring under it, and the reader takes from the ring. The message stands
-// behind what was held before.
-fn play_entry(
+// The line of an offer and, where that is asked for, the ring under it; then the reader takes from the ring. The message stands behind what was held
+// before.
+fn show_entry(
     out: Stdout,
-    table: &mut [u8],
-    ring: &mut [u8],
-    stocks: &mut [u8],
-    entry: &[u8],
+    ring: &[u8],
+    kind: u8,
+    stepped: Stepped,
     reader: Reader,
     tally: Tally,
 ) -> io::Result<Tally> {
     let before = tally.marks;
-    let stepped = step(table, ring, before, stocks, entry);
     let after = stepped.marks;
     let answer = number(stepped.answer);
     let entries = tally.entries.wrapping_add(!tally.blocked as u64);
     let message = release(ring.len(), after, before.held);
     let sent = type_shown(read(ring, message.marks));
-    print(out, line(entries, first_byte(entry), answer, sent))?;
+    print(out, line(entries, kind, answer, sent))?;
     if reader.draws {
         draw(out, ring.len(), after)?;
     }
@@ -77,10 +75,6 @@ fn play_entry(
         sent: tally.sent.wrapping_add(grown(before, after)),
         blocked: answer == BLOCKED,
     })
-}
-
-fn first_byte(entry: &[u8]) -> u8 {
-    entry.first().copied().unwrap_or(0)
 }
 
 // How many bytes a step put behind the held ones.
@@ -98,76 +92,60 @@ fn asked(rt: HostRuntime, tape: &mut [u8], feed: Feed, blocked: bool) -> Feed
     next(&mut rt.stdin(), Pieces::Entries, tape, feed)
 }
 
-// An offer for each entry, and one more for each time that it was blocked. What is no whole entry is the last, and the host answers 2 to it.
-fn play(
-    rt: HostRuntime,
-    table: &mut [u8],
-    ring: &mut [u8],
-    stocks: &mut [u8],
-    tape: &mut [u8],
-    reader: Reader,
-) -> io::Result<Tally> {
-    let mut feed = begin();
-    let mut tally = Tally {
-        marks: Marks { at: 0, held: 0 },
-        entries: 0,
-        taken: 0,
-        sent: 0,
-        blocked: false,
-    };
-    while 0 < feed.left {
-        feed = asked(rt, tape, feed, tally.blocked);
-        let entry = piece(tape, feed);
-        if !entry.is_empty() {
-            tally = play_entry(rt.stdout(), table, ring, stocks, entry, reader, tally)?;
+// What a day is played on: a table and a ring as long as the words ask for, the list of stocks, and the part of the tape that is held.
+#[derive(Drop)]
+struct Day<'a> {
+    table: &'a mut [u8],
+    ring: &'a mut [u8],
+    stocks: [u8; 9],
+    tape: [u8; 4_096],
+}
+
+impl Day<'_> {
+    // An offer for each entry, and one more for each time that it was blocked. What is no whole entry is the last, and the host answers 2 to it.
+    fn play(&mut self, rt: HostRuntime, reader: Reader) -> io::Result<Tally> {
+        let mut feed = begin();
+        let mut tally = Tally {
+            marks: Marks { at: 0, held: 0 },
+            entries: 0,
+            taken: 0,
+            sent: 0,
+            blocked: false,
+        };
+        while 0 < feed.left {
+            feed = asked(rt, &mut self.tape, feed, tally.blocked);
+            let entry = piece(&self.tape, feed);
+            if let [kind, ..] = entry {
+                let kind = *kind;
+                let stepped = step(self.table, self.ring, tally.marks, &mut self.stocks, entry);
+                tally = show_entry(rt.stdout(), self.ring, kind, stepped, reader, tally)?;
+            }
         }
+        Ok(tally)
     }
-    Ok(tally)
 }
 
-// A fresh day with its list of stocks, the tape, and what came of it: at the end the reader empties the ring, and the counts are told.
-fn play_day(
-    rt: HostRuntime,
-    table: &mut [u8],
-    ring: &mut [u8],
-    tape: &mut [u8],
-    reader: Reader,
-) -> io::Result<()>
-    requires { 1 ≤ reader.takes }
+// A fresh day, the tape, and what came of it: at the end the reader empties the ring, and the counts are told.
+fn play_with(rt: HostRuntime, words: Words, draws: bool) -> io::Result<()>
+    requires { Allowed words }
 {
-    let mut stocks = desk::STOCKS;
-    desk::open(table);
-    rt.stdout().write_all(&FIRST_LINE)?;
-    let tally = play(rt, table, ring, &mut stocks, tape, reader)?;
-    if reader.draws {
-        drain(rt.stdout(), ring.len(), tally.marks, reader.takes)?;
-    }
-    print(rt.stdout(), last_line(tally.taken, tally.sent))
-}
-
-// As much of the table and of the ring as the words ask for.
-fn play_with(
-    rt: HostRuntime,
-    table: &mut [u8],
-    ring: &mut [u8],
-    tape: &mut [u8],
-    words: Words,
-    draws: bool,
-) -> io::Result<()>
-    requires { Allowed words × Roomy table.old ring.old }
-{
-    let size = table_length(words);
-    let reader = Reader {
-        takes: words.release,
-        draws,
+    let mut table = [0u8; desk::TABLE_SIZE];
+    let mut ring = [0u8; LONGEST_RING];
+    let mut day = Day {
+        table: &mut table[..table_length(words)],
+        ring: &mut ring[..words.ring],
+        stocks: desk::STOCKS,
+        tape: [0; 4_096],
     };
-    play_day(
-        rt,
-        &mut table[..size],
-        &mut ring[..words.ring],
-        tape,
-        reader,
-    )
+    let out = rt.stdout();
+    let takes = words.release;
+    desk::open(day.table);
+    out.write_all(&FIRST_LINE)?;
+    let tally = day.play(rt, Reader { takes, draws })?;
+    if draws {
+        drain(out, words.ring, tally.marks, takes)?;
+    }
+    print(out, last_line(tally.taken, tally.sent))
 }
 
 fn main(rt: HostRuntime) {
@@ -177,10 +155,7 @@ fn main(rt: HostRuntime) {
         let _ = rt.stderr().write_all(&REFUSAL);
         return;
     };
-    let mut table = [0u8; desk::TABLE_SIZE];
-    let mut ring = [0u8; LONGEST_RING];
-    let mut tape = [0u8; 4_096];
-    if play_with(rt, &mut table, &mut ring, &mut tape, words, draws).is_err() {
+    if play_with(rt, words, draws).is_err() {
         let _ = rt
             .stderr()
             .write_all(b"replay: standard output takes no more\n");

@@ -1,5 +1,5 @@
 // What is written to standard output: lines, and the drawing of a ring as it stands and as its reader empties it.
-ghost use Rattle.std.specs.Prelude.{◌≤◌, length};
+ghost use Rattle.std.specs.Prelude.{◌≤◌};
 
 use listing::drawing::ring_line;
 use listing::lines::Shown;
@@ -8,9 +8,7 @@ use outbox::release::release;
 use std::io;
 use std::io::{Print, Stdout};
 
-pub(crate) fn print(out: Stdout, shown: Shown) -> io::Result<()>
-    requires { shown.len ≤ length shown.bytes }
-{
+pub(crate) fn print(out: Stdout, shown: Shown) -> io::Result<()> {
     out.write_all(&shown.bytes[..shown.len])
 }
 

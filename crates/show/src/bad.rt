@@ -1,10 +1,8 @@
 // Where an entry is bad: the field, the offset and the byte, in a line under the entry's own.
-ghost use Rattle.std.specs.Prelude.{◌<◌, length};
-
 use crate::line::{end_line, say, say_letter, say_number};
 use std::io;
 use std::io::Stdout;
-use tape::kinds::{Kind, kind_of};
+use tape::kinds::Kind;
 
 // Where a token stands behind the stamp, and what stands behind it.
 const TOKEN: usize = 9;
@@ -14,13 +12,10 @@ const BEHIND: usize = 23;
 // Where a Replace's own token ends.
 const BEHIND_REPLACEMENT: usize = 37;
 
-pub(crate) fn point_at(out: Stdout, s: &[u8], at: usize) -> io::Result<()>
-    requires { at < length s.now }
-{
+pub(crate) fn point_at(out: Stdout, kind: Kind, at: usize, b: u8) -> io::Result<()> {
     say(out, b"  bad ");
-    say(out, field(kind_of(s), at));
+    say(out, field(kind, at));
     say_number(out, b" at ", at as u64);
-    let b = octets::byte_at(s, at);
     say_number(out, b": byte ", b as u64);
     say_letter(out, b" ", b);
     end_line(out)

@@ -24,11 +24,10 @@ pub(crate) fn show_entry(out: Stdout, s: &[u8]) -> io::Result<()> {
     }
     say_refused(out, b"Entry", answer)?;
     let at = place(answer);
-    // A told place lies in the entry; `point_at` asks for it, so it is asked for once more.
-    if at == 0 || s.len() <= at {
-        return Ok(());
+    match s.get(at) {
+        Some(b) if at != 0 => point_at(out, kind_of(s), at, *b),
+        _ => Ok(()),
     }
-    point_at(out, s, at)
 }
 
 // What was judged has its kind's length. The readers ask for it, so it is asked for once more.

@@ -28,7 +28,10 @@ pub(crate) fn say_price(out: Stdout, price: u32) {
 
 // Letters and texts stand in quotes, since a space is one of them. Fields that nobody judges may hold any byte; what a terminal would act on is shown as a question mark.
 fn printable(b: u8) -> u8 {
-    if (b' ' <= b) & (b <= b'~') { b } else { b'?' }
+    match b {
+        b' '..=b'~' => b,
+        _ => b'?',
+    }
 }
 
 pub(crate) fn say_letter(out: Stdout, name: &[u8], b: u8) {

@@ -4,7 +4,7 @@ use crate::records::show_record;
 use answers::Answer;
 use header::firms::{MOST_FIRMS, firm_at, firm_blocked};
 use header::{BEFORE, CLOSED, HEADER_SIZE, Header, OPEN};
-use octets::byte_at;
+use octets::least;
 use std::io;
 use std::io::Stdout;
 use table::find::order_from;
@@ -30,19 +30,13 @@ pub(crate) fn show_table(out: Stdout, table: &[u8]) -> io::Result<()> {
 // By its answer, and by a line that says which of the two is no table's: the length, or the form in byte 2.
 fn show_refused(out: Stdout, table: &[u8], answer: Answer) -> io::Result<()> {
     say_refused(out, b"Table", answer)?;
-    if size_good(table) & (HEADER_SIZE <= table.len()) {
-        say_number(out, b"  bad form at 2: byte ", form(table) as u64);
-    } else {
-        say_length(out, table.len());
+    match table.get(2) {
+        Some(form) if size_good(table) && HEADER_SIZE <= table.len() => {
+            say_number(out, b"  bad form at 2: byte ", *form as u64)
+        }
+        _ => say_length(out, table.len()),
     }
     end_line(out)
-}
-
-fn form(table: &[u8]) -> u8 {
-    if table.len() < HEADER_SIZE {
-        return 0;
-    }
-    byte_at(table, 2)
 }
 
 // No more is read of an input that is too long.
@@ -67,17 +61,17 @@ fn show_tally(out: Stdout, table: &[u8], tally: Tally) -> io::Result<()> {
     end_line(out)
 }
 
-fn say_day(out: Stdout, day: u8) {
+fn named(day: u8) -> &'static [u8] {
     match day {
-        BEFORE => say(out, b"Day not begun"),
-        OPEN => say(out, b"Day open"),
-        CLOSED => say(out, b"Day closed"),
-        _ => say(out, b"Day in no state"),
+        BEFORE => b"Day not begun",
+        OPEN => b"Day open",
+        CLOSED => b"Day closed",
+        _ => b"Day in no state",
     }
 }
 
 fn show_day(out: Stdout, h: Header) -> io::Result<()> {
-    say_day(out, h.day);
+    say(out, named(h.day));
     say_stamp(out, b" last stamp ", h.last);
     say_number(out, b" next reference ", h.reference);
     say_number(out, b" threshold ", h.threshold.0 as u64);

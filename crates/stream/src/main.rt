@@ -9,7 +9,7 @@
 #![tactic(auto)]
 
 ghost use Rattle.std.specs.Prelude.{◌-◌, ◌≤◌};
-ghost use Rattle.words.specs.Words.{Allowed, Roomy};
+ghost use Rattle.words.specs.Words.{Allowed};
 
 use answers::number;
 use feed::pieces::Pieces;
@@ -50,64 +50,51 @@ fn asked(rt: HostRuntime, tape: &mut [u8], feed: Feed, blocked: bool) -> Feed
     next(&mut rt.stdin(), Pieces::Entries, tape, feed)
 }
 
-// An offer for each entry, and one more for each time that it was blocked; after each the reader takes from the ring. What is no whole entry is the
-// last, and the host takes nothing of it.
-fn play(
-    rt: HostRuntime,
-    table: &mut [u8],
-    ring: &mut [u8],
-    stocks: &mut [u8],
-    tape: &mut [u8],
-    takes: usize,
-) -> io::Result<Marks> {
-    let mut feed = begin();
-    let mut marks = Marks { at: 0, held: 0 };
-    let mut blocked = false;
-    while 0 < feed.left {
-        feed = asked(rt, tape, feed, blocked);
-        let entry = piece(tape, feed);
-        if !entry.is_empty() {
-            let stepped = step(table, ring, marks, stocks, entry);
-            blocked = number(stepped.answer) == BLOCKED;
-            marks = send(rt.stdout(), ring, stepped.marks, takes)?;
+// What a day is played on: a table and a ring as long as the words ask for, the list of stocks, and the part of the tape that is held.
+#[derive(Drop)]
+struct Day<'a> {
+    table: &'a mut [u8],
+    ring: &'a mut [u8],
+    stocks: [u8; 9],
+    tape: [u8; 4_096],
+}
+
+impl Day<'_> {
+    // An offer for each entry, and one more for each time that it was blocked; after each the reader takes from the ring. What is no whole entry is
+    // the last, and the host takes nothing of it.
+    fn play(&mut self, rt: HostRuntime, takes: usize) -> io::Result<Marks> {
+        let mut feed = begin();
+        let mut marks = Marks { at: 0, held: 0 };
+        let mut blocked = false;
+        while 0 < feed.left {
+            feed = asked(rt, &mut self.tape, feed, blocked);
+            let entry = piece(&self.tape, feed);
+            if !entry.is_empty() {
+                let stepped = step(self.table, self.ring, marks, &mut self.stocks, entry);
+                blocked = number(stepped.answer) == BLOCKED;
+                marks = send(rt.stdout(), self.ring, stepped.marks, takes)?;
+            }
         }
+        Ok(marks)
     }
-    Ok(marks)
 }
 
-// A fresh day with its list of stocks, and the tape; at the end the reader takes all that is held.
-fn play_day(
-    rt: HostRuntime,
-    table: &mut [u8],
-    ring: &mut [u8],
-    tape: &mut [u8],
-    takes: usize,
-) -> io::Result<()> {
-    let mut stocks = desk::STOCKS;
-    desk::open(table);
-    let marks = play(rt, table, ring, &mut stocks, tape, takes)?;
-    send(rt.stdout(), ring, marks, LONGEST_RING)?;
-    Ok(())
-}
-
-// As much of the table and of the ring as the words ask for.
-fn play_with(
-    rt: HostRuntime,
-    table: &mut [u8],
-    ring: &mut [u8],
-    tape: &mut [u8],
-    words: Words,
-) -> io::Result<()>
-    requires { Allowed words × Roomy table.old ring.old }
+// A fresh day and the tape; at the end the reader takes all that is held.
+fn play_with(rt: HostRuntime, words: Words) -> io::Result<()>
+    requires { Allowed words }
 {
-    let size = table_length(words);
-    play_day(
-        rt,
-        &mut table[..size],
-        &mut ring[..words.ring],
-        tape,
-        words.release,
-    )
+    let mut table = [0u8; desk::TABLE_SIZE];
+    let mut ring = [0u8; LONGEST_RING];
+    let mut day = Day {
+        table: &mut table[..table_length(words)],
+        ring: &mut ring[..words.ring],
+        stocks: desk::STOCKS,
+        tape: [0; 4_096],
+    };
+    desk::open(day.table);
+    let marks = day.play(rt, words.release)?;
+    send(rt.stdout(), day.ring, marks, LONGEST_RING)?;
+    Ok(())
 }
 
 fn main(rt: HostRuntime) {
@@ -116,10 +103,7 @@ fn main(rt: HostRuntime) {
         let _ = rt.stderr().write_all(&REFUSAL);
         return;
     };
-    let mut table = [0u8; desk::TABLE_SIZE];
-    let mut ring = [0u8; LONGEST_RING];
-    let mut tape = [0u8; 4_096];
-    if play_with(rt, &mut table, &mut ring, &mut tape, words).is_err() {
+    if play_with(rt, words).is_err() {
         let _ = rt
             .stderr()
             .write_all(b"stream: standard output takes no more\n");

@@ -1,5 +1,5 @@
 -- The words that the programs take, beyond the paper: without one they do what it says ('a 4,096-byte ring emptied after each entry', 800 records).
-use Rattle.std.specs.Prelude.{ℕ, ◌+◌, ◌*◌, ◌-◌, ◌≤◌, ◌≡◌, Bool, ◌&&◌, Option, Some, None, List, [], ◌∷◌, length, leb, ltb}
+use Rattle.std.specs.Prelude.{ℕ, ◌+◌, ◌*◌, ◌-◌, ◌≤◌, Bool, ◌&&◌, Option, Some, None, List, [], ◌∷◌, leb, ltb}
 use Rattle.std.specs.Bool.{then_some}
 use Prim.Native.Char.{code}
 use Rattle.octets.specs.Bytes.{same}
@@ -70,10 +70,6 @@ heard before name value = with_both before (word_of name) (number_in value)
 -- a table of 800 records, which is proved to be as long
 abbrev pub longest_table : ℕ
 longest_table = 64_164
-
--- a table and a ring that are as long as any words ask for
-abbrev pub Roomy : List ℕ → List ℕ → Type 0
-Roomy table ring = (length table ≡ longest_table) × (length ring ≡ longest_ring)
 
 -- what may come of the words, whatever is typed
 pub record Allowed (w : Words) : Type 0 where

@@ -1,7 +1,7 @@
 -- `io` gives the digits, at most twenty, and they are said. Assumes nothing.
 use Rattle.octets.proofs.Proving.{◌∙◌, ◌≤◌, arith}
 use Rattle.listing.proofs.Places.{at-most-twenty, decimal-text, decimal-long}
-use Rattle.listing.proofs.lines.Shown.number_said.Goals as goal
+use Rattle.listing.proofs.shown.Shown.number_said.Goals as goal
 
 pub returns : goal.returns
 returns c =
