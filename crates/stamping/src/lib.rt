@@ -19,7 +19,8 @@ use tape::kinds::entry_length;
 use wire::body::Body;
 use wire::messages::first_byte;
 
-// What the purge port took, or else a client's message to the host. Only a call that answers 0 changes anything.
+// What the purge port took, or else a client's message to the host: a flag, as the C door has it (`pq_entry`). Only a call that answers 0 changes
+// anything.
 pub fn stamped(purge: bool, stamp: u64, message: &[u8], entry: &mut [u8]) -> Answer
     ensures { (result ≡ stamp_answer purge stamp message.now entry.old) × (entry.new ≡ stamp_after purge stamp message.now entry.old) }
 {
