@@ -31,10 +31,8 @@ fn first(table: &[u8], token: [u8; 14], n: usize) -> usize
         }
         i += 2;
     }
-    if i < n {
-        if has_token(table, token, i) {
-            return i;
-        }
+    if i < n && has_token(table, token, i) {
+        return i;
     }
     n
 }

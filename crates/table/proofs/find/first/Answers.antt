@@ -1,9 +1,9 @@
--- The loop's invariant: the first record with the token is still ahead. The measure is what is left of n.
+-- Two records are looked at in a turn, and one behind the loop where their number is odd. Assumes nothing.
 use Rattle.octets.proofs.Proving.{◌+◌, ◌≡◌, answered, arith}
 use Rattle.octets.proofs.First.{Ahead, ahead-start, ahead-found, ahead-next, ahead-end}
 use Rattle.table.specs.Table.{records_in, has_token}
 use Rattle.table.proofs.find.first.Goals as goal
-use Rattle.table.proofs.find.first.Goals.{Else-has_token}
+use Rattle.table.proofs.find.first.Goals.{Else-has_token, else-i-n-via-then-i-n+else-has_token-3, else-i-n-via-else-i-n}
 
 -- the first of a turn's two records does not have it
 second : (c : Else-has_token) → let a = c.args in
@@ -39,12 +39,10 @@ returns-then-has_token-3 c =
     let l = c.loop-i in
     ahead-found _ _ l.i l.invariant.1 (omega arith) (answered c.has_token-then-i-n.ensures c.if-has_token-3.true)
 
-pub returns-else-has_token-3 : goal.returns-else-has_token-3
-returns-else-has_token-3 c =
+pub returns : goal.returns
+returns c =
     let l = c.loop-i in
-    ahead-end _ _ (l.i + 1) (ahead-next _ _ l.i l.invariant.1 (omega arith) (answered c.has_token-then-i-n.ensures c.if-has_token-3.false)) (omega arith)
-
-pub returns-else-i-n : goal.returns-else-i-n
-returns-else-i-n c =
-    let l = c.loop-i in
-    ahead-end _ _ l.i l.invariant.1 (omega arith)
+    elim c.else-i-n.branch [
+      | else-i-n-via-then-i-n+else-has_token-3 w ↦ ahead-end _ _ (l.i + 1) (ahead-next _ _ l.i l.invariant.1 (omega arith) (answered w.has_token-then-i-n.ensures w.if-has_token-3.false)) (omega arith)
+      | else-i-n-via-else-i-n w ↦ ahead-end _ _ l.i l.invariant.1 (omega arith)
+    ]

@@ -1,5 +1,4 @@
--- The loop's invariant: what is left are the bits that were not looked at, and none of the others is of a record that is wanted. The measure is what
--- is left, as a number. Assumes nothing.
+-- The lowest of the bits that are left is looked at, and cleared if its record is not wanted. Assumes nothing.
 use Rattle.octets.proofs.Proving.{List, ◌&&◌, ◌*◌, ◌+◌, ◌<◌, ◌∙◌, ◌≡◌, ◌≤◌, answered, ap, arith, false, get_or, subst, sym, true, ℕ}
 use Rattle.octets.specs.Choice.{first_below}
 use Rattle.octets.specs.Bits.{bit_of}
