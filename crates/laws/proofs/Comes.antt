@@ -1,7 +1,7 @@
 -- What is known of an entry that comes to something done: it is legal, a record and a reference are left where they are needed, and its plan
 -- keeps what the rules keep. Assumes nothing.
-use Rattle.std.specs.Prelude.{None}
-use Rattle.octets.proofs.Proving.{Bool, List, Option, ◌&&◌, ◌+◌, ◌<◌, ◌||◌, ◌∙◌, ◌∷◌, ◌≡◌, ◌≢◌, ◌≤◌, ◌⊎◌, ap, arith, drop, drop-drop, eqb, false, false≢true, guard, inl, inr, le-leb, length, length-drop, ltb, ltb-true, none, not, not-false, not-true, or_left, or_right, refl, replicate, some, subst, sym, take, true, ℕ}
+use Rattle.std.specs.Prelude.{Option, None, Some}
+use Rattle.octets.proofs.Proving.{Bool, List, ◌&&◌, ◌+◌, ◌<◌, ◌||◌, ◌∙◌, ◌∷◌, ◌≡◌, ◌≢◌, ◌≤◌, ◌⊎◌, ap, arith, drop, drop-drop, eqb, false, false≢true, guard, inl, inr, le-leb, length, length-drop, ltb, ltb-true, not, not-false, not-true, or_left, or_right, refl, replicate, subst, sym, take, true, ℕ}
 use Rattle.octets.specs.Choice.{◌⇒◌⨾◌, all_below, among}
 use Rattle.octets.specs.Bytes.{part}
 use Rattle.octets.proofs.Laws.{length_part}

@@ -4,7 +4,6 @@ use crate::records::show_record;
 use answers::Answer;
 use header::firms::{MOST_FIRMS, firm_at, firm_blocked};
 use header::{BEFORE, CLOSED, HEADER_SIZE, Header, OPEN};
-use octets::least;
 use std::io;
 use std::io::Stdout;
 use table::find::order_from;
