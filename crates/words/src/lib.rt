@@ -6,7 +6,7 @@
 
 mod numbers;
 
-ghost use Rattle.std.specs.Prelude.{◌≡◌, ◌<◌, ◌≤◌, IfSome};
+ghost use Rattle.std.specs.Prelude.{◌≡◌, ◌<◌, ◌≤◌, IfSome, length};
 ghost use Rattle.octets.specs.Bytes.{same};
 ghost use Rattle.table.specs.Table.{table_size};
 ghost use Rattle.words.specs.Words.{usual, longest_table, word_of, takes, with_word, heard, Allowed};
@@ -115,7 +115,9 @@ pub fn hear(before: Words, name: &[u8], value: &[u8]) -> Option<Words>
 }
 
 // The word at place i of what was typed, which then stands in `space`, where there is one. What is longer than any word is an empty one.
-pub fn word_at<'a, R: Env>(rt: &R, i: usize, space: &'a mut [u8; 16]) -> Option<&'a [u8]> {
+pub fn word_at<'a, R: Env>(rt: &R, i: usize, space: &'a mut [u8; 16]) -> Option<&'a [u8]>
+    ensures { IfSome result (λ word. length word.now ≤ 16) }
+{
     match rt.arg(i, space) {
         Ok(n) => Some(&space[..n]),
         Err(FillError::NotPresent) => None,
