@@ -34,17 +34,16 @@ use outbox::release::release;
 const PAST_THE_LAST: u64 = 1_000_000_000_000_000_000;
 
 // The run at the read place is read and given up. A message that wraps at the ring's end is two runs.
-fn given_up(ring: &[u8], marks: Marks) -> Marks {
-    let moved = release(ring.len(), marks, read(ring, marks).len());
-    moved.marks
+fn give_up(ring: &[u8], marks: &mut Marks) {
+    let _ = release(ring.len(), marks, read(ring, *marks).len());
 }
 
 fn emptied(board: &Board, run: Run) -> Run {
     let ring = part(&board.ring, 0, run.ring);
-    Run {
-        marks: given_up(ring, given_up(ring, run.marks)),
-        ..run
-    }
+    let mut marks = run.marks;
+    give_up(ring, &mut marks);
+    give_up(ring, &mut marks);
+    Run { marks, ..run }
 }
 
 // What came of an entry, from the board and the marks before and after it.
@@ -53,7 +52,7 @@ fn last(answer: Answer, was: Marks, marks: Marks, before: Board, after: Board) -
         answer: number(answer),
         place: place(answer),
         before: was.held,
-        changed: before != after || marks.at != was.at || marks.held != was.held,
+        changed: before != after || marks != was,
         intact: part(&before.table, 64, 144) == part(&after.table, 64, 144),
     }
 }
@@ -63,15 +62,14 @@ fn offered(board: &mut Board, run: Run, entry: &[u8]) -> Run {
     let before = *board;
     let ring = &mut board.ring[..];
     let n = run.ring.min(ring.len());
-    let stepped = step(
+    let mut marks = was;
+    let answer = step(
         &mut board.table,
         &mut ring[..n],
-        was,
+        &mut marks,
         &mut board.stocks,
         entry,
     );
-    let marks = stepped.marks;
-    let answer = stepped.answer;
     Run {
         marks,
         last: last(answer, was, marks, before, *board),

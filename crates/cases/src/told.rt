@@ -27,8 +27,9 @@ fn held_bytes(ring: &[u8], marks: Marks) -> [u8; LONGEST] {
     let mut bytes = [0; LONGEST];
     let first = read(ring, marks);
     put(&mut bytes, 0, first);
-    let moved = release(ring.len(), marks, first.len());
-    put(&mut bytes, first.len(), read(ring, moved.marks));
+    let mut behind = marks;
+    let _ = release(ring.len(), &mut behind, first.len());
+    put(&mut bytes, first.len(), read(ring, behind));
     bytes
 }
 

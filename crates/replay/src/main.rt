@@ -15,10 +15,10 @@ ghost use Rattle.std.specs.Prelude.{◌-◌, ◌≤◌};
 ghost use Rattle.words.specs.Words.{Allowed};
 
 use crate::printing::{drain, draw, print, taken_from};
-use answers::number;
+use answers::{Answer, Refusal, number};
 use feed::pieces::Pieces;
 use feed::{Feed, again, begin, next, piece};
-use host::step::{Stepped, step};
+use host::step::step;
 use listing::lines::{FIRST_LINE, last_line, line, type_shown};
 use outbox::marks::{LONGEST_RING, Marks};
 use outbox::read::read;
@@ -26,9 +26,6 @@ use outbox::release::release;
 use std::io;
 use std::io::Stdout;
 use words::{REFUSAL, Words, table_length, typed, word_at};
-
-// The answer to an entry whose message has no room.
-const BLOCKED: u8 = 9;
 
 // How much the ring's reader takes between two offers, and whether the ring is drawn.
 #[derive(Clone, Copy)]
@@ -54,26 +51,26 @@ fn show_entry(
     out: Stdout,
     ring: &[u8],
     kind: u8,
-    stepped: Stepped,
+    answer: Answer,
+    after: Marks,
     reader: Reader,
     tally: Tally,
 ) -> io::Result<Tally> {
     let before = tally.marks;
-    let after = stepped.marks;
-    let answer = number(stepped.answer);
     let entries = tally.entries.wrapping_add(!tally.blocked as u64);
-    let message = release(ring.len(), after, before.held);
-    let sent = type_shown(read(ring, message.marks));
-    print(out, line(entries, kind, answer, sent))?;
+    let mut behind = after;
+    let _ = release(ring.len(), &mut behind, before.held);
+    let sent = type_shown(read(ring, behind));
+    print(out, line(entries, kind, number(answer), sent))?;
     if reader.draws {
         draw(out, ring.len(), after)?;
     }
     Ok(Tally {
         marks: taken_from(ring.len(), after, reader.takes),
         entries,
-        taken: tally.taken.wrapping_add((answer == 0) as u64),
+        taken: tally.taken.wrapping_add(answer.is_ok() as u64),
         sent: tally.sent.wrapping_add(grown(before, after)),
-        blocked: answer == BLOCKED,
+        blocked: answer == Err(Refusal::Blocked),
     })
 }
 
@@ -117,8 +114,9 @@ impl Day<'_> {
             let entry = piece(&self.tape, feed);
             if let [kind, ..] = entry {
                 let kind = *kind;
-                let stepped = step(self.table, self.ring, tally.marks, &mut self.stocks, entry);
-                tally = show_entry(rt.stdout(), self.ring, kind, stepped, reader, tally)?;
+                let mut marks = tally.marks;
+                let answer = step(self.table, self.ring, &mut marks, &mut self.stocks, entry);
+                tally = show_entry(rt.stdout(), self.ring, kind, answer, marks, reader, tally)?;
             }
         }
         Ok(tally)

@@ -26,7 +26,9 @@ pub(crate) fn draw(out: Stdout, size: usize, marks: Marks) -> io::Result<()> {
 
 // The marks after a reader took as much as it takes, or all that is held.
 pub(crate) fn taken_from(size: usize, marks: Marks, takes: usize) -> Marks {
-    release(size, marks, takes.min(marks.held)).marks
+    let mut after = marks;
+    let _ = release(size, &mut after, takes.min(marks.held));
+    after
 }
 
 // The reader goes on alone until nothing is held, and the ring is drawn each time that it took, from the last offer on.

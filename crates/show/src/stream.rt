@@ -3,56 +3,203 @@ use crate::line::{
     end_line, say_firm, say_head, say_letter, say_number, say_price, say_refused, say_stamp,
     say_stock, say_token,
 };
-
-use outbound::accepted::read_accepted;
-use outbound::aiq_cancelled::read_aiq_cancelled;
-use outbound::broken_trade::read_broken_trade;
-use outbound::cancel_pending::read_cancel_pending;
-use outbound::cancel_reject::read_cancel_reject;
-use outbound::canceled::read_canceled;
-use outbound::executed::read_executed;
-use outbound::modified::read_modified;
-use outbound::priority_update::read_priority_update;
-use outbound::rejected::read_rejected;
-use outbound::replaced::read_replaced;
+use outbound::accepted::Accepted;
+use outbound::aiq_cancelled::AiqCancelled;
+use outbound::broken_trade::BrokenTrade;
+use outbound::cancel_pending::CancelPending;
+use outbound::cancel_reject::CancelReject;
+use outbound::canceled::Canceled;
+use outbound::executed::Executed;
+use outbound::modified::Modified;
+use outbound::priority_update::PriorityUpdate;
+use outbound::rejected::Rejected;
+use outbound::replaced::Replaced;
 use outbound::stated::Stated;
-use outbound::system_event::read_system_event;
+use outbound::system_event::SystemEvent;
 use std::io;
 use std::io::Stdout;
+use wire::body::{Body, read};
+
+// A message that has a line: its name, and its fields in words.
+trait Shown: Body {
+    fn name() -> &'static [u8];
+
+    fn say(self, out: Stdout);
+}
+
+// By its fields where it is legal, and else by its answer.
+fn show<M: Shown>(out: Stdout, s: &[u8]) -> io::Result<()> {
+    match read::<M>(s).legal() {
+        Ok(m) => {
+            m.say(out);
+            end_line(out)
+        }
+        Err(refusal) => say_refused(out, M::name(), Err(refusal)),
+    }
+}
 
 // By the type. A feed hands out messages of these types alone.
 pub(crate) fn show_message(out: Stdout, s: &[u8]) -> io::Result<()> {
-    if s.len() == 0 {
-        return Ok(());
-    }
-    let letter = s[0];
-    match letter {
-        b'S' => show_system_event(out, s),
-        b'A' => show_accepted(out, s),
-        b'U' => show_replaced(out, s),
-        b'C' => show_canceled(out, s),
-        b'D' => show_aiq_cancelled(out, s),
-        b'E' => show_executed(out, s),
-        b'B' => show_broken_trade(out, s),
-        b'J' => show_rejected(out, s),
-        b'P' => show_cancel_pending(out, s),
-        b'I' => show_cancel_reject(out, s),
-        b'T' => show_priority_update(out, s),
-        b'M' => show_modified(out, s),
+    match s {
+        [b'S', ..] => show::<SystemEvent>(out, s),
+        [b'A', ..] => show::<Accepted>(out, s),
+        [b'U', ..] => show::<Replaced>(out, s),
+        [b'C', ..] => show::<Canceled>(out, s),
+        [b'D', ..] => show::<AiqCancelled>(out, s),
+        [b'E', ..] => show::<Executed>(out, s),
+        [b'B', ..] => show::<BrokenTrade>(out, s),
+        [b'J', ..] => show::<Rejected>(out, s),
+        [b'P', ..] => show::<CancelPending>(out, s),
+        [b'I', ..] => show::<CancelReject>(out, s),
+        [b'T', ..] => show::<PriorityUpdate>(out, s),
+        [b'M', ..] => show::<Modified>(out, s),
         _ => Ok(()),
     }
 }
 
-fn show_system_event(out: Stdout, s: &[u8]) -> io::Result<()> {
-    let found = read_system_event(s);
-    let answer = found.answer;
-    if answer.is_ok() {
-        let m = found.body;
-        say_stamp(out, b"System Event ", m.stamp);
-        say_letter(out, b" event ", m.event);
-        return end_line(out);
+impl Shown for SystemEvent {
+    fn name() -> &'static [u8] {
+        b"System Event"
     }
-    say_refused(out, b"System Event", answer)
+
+    fn say(self, out: Stdout) {
+        say_stamp(out, b"System Event ", self.stamp);
+        say_letter(out, b" event ", self.event);
+    }
+}
+
+impl Shown for Accepted {
+    fn name() -> &'static [u8] {
+        b"Accepted"
+    }
+
+    fn say(self, out: Stdout) {
+        say_head(out, b"Accepted ", self.stamp, self.token);
+        say_order(out, self.order);
+        say_letter(out, b" weight ", self.weight);
+    }
+}
+
+impl Shown for Replaced {
+    fn name() -> &'static [u8] {
+        b"Replaced"
+    }
+
+    fn say(self, out: Stdout) {
+        say_head(out, b"Replaced ", self.stamp, self.token);
+        say_order(out, self.order);
+        say_token(out, b" previous ", self.previous);
+        say_letter(out, b" weight ", self.weight);
+    }
+}
+
+impl Shown for Canceled {
+    fn name() -> &'static [u8] {
+        b"Canceled"
+    }
+
+    fn say(self, out: Stdout) {
+        say_head(out, b"Canceled ", self.stamp, self.token);
+        say_number(out, b" decrement ", self.decrement.0 as u64);
+        say_letter(out, b" reason ", self.reason);
+    }
+}
+
+impl Shown for AiqCancelled {
+    fn name() -> &'static [u8] {
+        b"AIQ Cancelled"
+    }
+
+    fn say(self, out: Stdout) {
+        say_head(out, b"AIQ Cancelled ", self.stamp, self.token);
+        say_number(out, b" decrement ", self.decrement.0 as u64);
+        say_letter(out, b" reason ", self.reason);
+        say_number(out, b" prevented ", self.prevented.0 as u64);
+        say_price(out, self.price);
+        say_letter(out, b" flag ", self.flag);
+    }
+}
+
+impl Shown for Executed {
+    fn name() -> &'static [u8] {
+        b"Executed"
+    }
+
+    fn say(self, out: Stdout) {
+        say_head(out, b"Executed ", self.stamp, self.token);
+        say_number(out, b" shares ", self.shares.0 as u64);
+        say_price(out, self.price);
+        say_letter(out, b" flag ", self.flag);
+        say_number(out, b" match number ", self.match_number);
+    }
+}
+
+impl Shown for BrokenTrade {
+    fn name() -> &'static [u8] {
+        b"Broken Trade"
+    }
+
+    fn say(self, out: Stdout) {
+        say_head(out, b"Broken Trade ", self.stamp, self.token);
+        say_number(out, b" match number ", self.match_number);
+        say_letter(out, b" reason ", self.reason);
+    }
+}
+
+impl Shown for Rejected {
+    fn name() -> &'static [u8] {
+        b"Rejected"
+    }
+
+    fn say(self, out: Stdout) {
+        say_head(out, b"Rejected ", self.stamp, self.token);
+        say_letter(out, b" reason ", self.reason);
+    }
+}
+
+impl Shown for CancelPending {
+    fn name() -> &'static [u8] {
+        b"Cancel Pending"
+    }
+
+    fn say(self, out: Stdout) {
+        say_head(out, b"Cancel Pending ", self.stamp, self.token);
+    }
+}
+
+impl Shown for CancelReject {
+    fn name() -> &'static [u8] {
+        b"Cancel Reject"
+    }
+
+    fn say(self, out: Stdout) {
+        say_head(out, b"Cancel Reject ", self.stamp, self.token);
+    }
+}
+
+impl Shown for PriorityUpdate {
+    fn name() -> &'static [u8] {
+        b"Priority Update"
+    }
+
+    fn say(self, out: Stdout) {
+        say_head(out, b"Priority Update ", self.stamp, self.token);
+        say_price(out, self.price);
+        say_letter(out, b" display ", self.display);
+        say_number(out, b" reference ", self.reference);
+    }
+}
+
+impl Shown for Modified {
+    fn name() -> &'static [u8] {
+        b"Modified"
+    }
+
+    fn say(self, out: Stdout) {
+        say_head(out, b"Modified ", self.stamp, self.token);
+        say_letter(out, b" side ", self.side);
+        say_number(out, b" shares ", self.shares.0 as u64);
+    }
 }
 
 // What Accepted and Replaced state of an order, in the order of their bytes.
@@ -72,163 +219,4 @@ fn say_order(out: Stdout, order: Stated) {
     say_number(out, b" minimum ", order.minimum.0 as u64);
     say_letter(out, b" cross ", order.cross);
     say_letter(out, b" state ", order.state);
-}
-
-fn show_accepted(out: Stdout, s: &[u8]) -> io::Result<()> {
-    let found = read_accepted(s);
-    let answer = found.answer;
-    if answer.is_ok() {
-        let m = found.body;
-        let token = m.token;
-        let order = m.order;
-        say_head(out, b"Accepted ", m.stamp, token);
-        say_order(out, order);
-        say_letter(out, b" weight ", m.weight);
-        return end_line(out);
-    }
-    say_refused(out, b"Accepted", answer)
-}
-
-fn show_replaced(out: Stdout, s: &[u8]) -> io::Result<()> {
-    let found = read_replaced(s);
-    let answer = found.answer;
-    if answer.is_ok() {
-        let m = found.body;
-        let token = m.token;
-        let order = m.order;
-        let previous = m.previous;
-        say_head(out, b"Replaced ", m.stamp, token);
-        say_order(out, order);
-        say_token(out, b" previous ", previous);
-        say_letter(out, b" weight ", m.weight);
-        return end_line(out);
-    }
-    say_refused(out, b"Replaced", answer)
-}
-
-fn show_canceled(out: Stdout, s: &[u8]) -> io::Result<()> {
-    let found = read_canceled(s);
-    let answer = found.answer;
-    if answer.is_ok() {
-        let m = found.body;
-        let token = m.token;
-        say_head(out, b"Canceled ", m.stamp, token);
-        say_number(out, b" decrement ", m.decrement.0 as u64);
-        say_letter(out, b" reason ", m.reason);
-        return end_line(out);
-    }
-    say_refused(out, b"Canceled", answer)
-}
-
-fn show_aiq_cancelled(out: Stdout, s: &[u8]) -> io::Result<()> {
-    let found = read_aiq_cancelled(s);
-    let answer = found.answer;
-    if answer.is_ok() {
-        let m = found.body;
-        let token = m.token;
-        say_head(out, b"AIQ Cancelled ", m.stamp, token);
-        say_number(out, b" decrement ", m.decrement.0 as u64);
-        say_letter(out, b" reason ", m.reason);
-        say_number(out, b" prevented ", m.prevented.0 as u64);
-        say_price(out, m.price);
-        say_letter(out, b" flag ", m.flag);
-        return end_line(out);
-    }
-    say_refused(out, b"AIQ Cancelled", answer)
-}
-
-fn show_executed(out: Stdout, s: &[u8]) -> io::Result<()> {
-    let found = read_executed(s);
-    let answer = found.answer;
-    if answer.is_ok() {
-        let m = found.body;
-        let token = m.token;
-        say_head(out, b"Executed ", m.stamp, token);
-        say_number(out, b" shares ", m.shares.0 as u64);
-        say_price(out, m.price);
-        say_letter(out, b" flag ", m.flag);
-        say_number(out, b" match number ", m.match_number);
-        return end_line(out);
-    }
-    say_refused(out, b"Executed", answer)
-}
-
-fn show_broken_trade(out: Stdout, s: &[u8]) -> io::Result<()> {
-    let found = read_broken_trade(s);
-    let answer = found.answer;
-    if answer.is_ok() {
-        let m = found.body;
-        let token = m.token;
-        say_head(out, b"Broken Trade ", m.stamp, token);
-        say_number(out, b" match number ", m.match_number);
-        say_letter(out, b" reason ", m.reason);
-        return end_line(out);
-    }
-    say_refused(out, b"Broken Trade", answer)
-}
-
-fn show_rejected(out: Stdout, s: &[u8]) -> io::Result<()> {
-    let found = read_rejected(s);
-    let answer = found.answer;
-    if answer.is_ok() {
-        let m = found.body;
-        let token = m.token;
-        say_head(out, b"Rejected ", m.stamp, token);
-        say_letter(out, b" reason ", m.reason);
-        return end_line(out);
-    }
-    say_refused(out, b"Rejected", answer)
-}
-
-fn show_cancel_pending(out: Stdout, s: &[u8]) -> io::Result<()> {
-    let found = read_cancel_pending(s);
-    let answer = found.answer;
-    if answer.is_ok() {
-        let m = found.body;
-        let token = m.token;
-        say_head(out, b"Cancel Pending ", m.stamp, token);
-        return end_line(out);
-    }
-    say_refused(out, b"Cancel Pending", answer)
-}
-
-fn show_cancel_reject(out: Stdout, s: &[u8]) -> io::Result<()> {
-    let found = read_cancel_reject(s);
-    let answer = found.answer;
-    if answer.is_ok() {
-        let m = found.body;
-        let token = m.token;
-        say_head(out, b"Cancel Reject ", m.stamp, token);
-        return end_line(out);
-    }
-    say_refused(out, b"Cancel Reject", answer)
-}
-
-fn show_priority_update(out: Stdout, s: &[u8]) -> io::Result<()> {
-    let found = read_priority_update(s);
-    let answer = found.answer;
-    if answer.is_ok() {
-        let m = found.body;
-        let token = m.token;
-        say_head(out, b"Priority Update ", m.stamp, token);
-        say_price(out, m.price);
-        say_letter(out, b" display ", m.display);
-        say_number(out, b" reference ", m.reference);
-        return end_line(out);
-    }
-    say_refused(out, b"Priority Update", answer)
-}
-
-fn show_modified(out: Stdout, s: &[u8]) -> io::Result<()> {
-    let found = read_modified(s);
-    let answer = found.answer;
-    if answer.is_ok() {
-        let m = found.body;
-        let token = m.token;
-        say_head(out, b"Modified ", m.stamp, token);
-        say_letter(out, b" side ", m.side);
-        say_number(out, b" shares ", m.shares.0 as u64);
-        return end_line(out);
-    }
-    say_refused(out, b"Modified", answer)
 }

@@ -11,7 +11,7 @@
 ghost use Rattle.std.specs.Prelude.{◌-◌, ◌≤◌};
 ghost use Rattle.words.specs.Words.{Allowed};
 
-use answers::number;
+use answers::Refusal;
 use feed::pieces::Pieces;
 use feed::{Feed, again, begin, next, piece};
 use host::step::step;
@@ -22,22 +22,20 @@ use std::io;
 use std::io::{Print, Stdout};
 use words::{REFUSAL, Words, table_length, typed};
 
-// The answer to an entry whose message has no room.
-const BLOCKED: u8 = 9;
-
-// The run at the read place, or as much of it as the reader takes, is written and given up. The marks afterwards, and how much more it takes.
-fn send_run(out: Stdout, ring: &[u8], marks: Marks, takes: usize) -> io::Result<(Marks, usize)> {
-    let run = read(ring, marks);
+// The run at the read place, or as much of it as the reader takes, is written and given up. How much more it takes.
+fn send_run(out: Stdout, ring: &[u8], marks: &mut Marks, takes: usize) -> io::Result<usize> {
+    let run = read(ring, *marks);
     let n = takes.min(run.len());
     out.write_all(&run[..n])?;
-    Ok((release(ring.len(), marks, n).marks, takes - n))
+    let _ = release(ring.len(), marks, n);
+    Ok(takes - n)
 }
 
 // What is held may go on at the ring's start, so it is two runs.
-fn send(out: Stdout, ring: &[u8], marks: Marks, takes: usize) -> io::Result<Marks> {
-    let (behind, left) = send_run(out, ring, marks, takes)?;
-    let (end, _) = send_run(out, ring, behind, left)?;
-    Ok(end)
+fn send(out: Stdout, ring: &[u8], marks: &mut Marks, takes: usize) -> io::Result<()> {
+    let left = send_run(out, ring, marks, takes)?;
+    send_run(out, ring, marks, left)?;
+    Ok(())
 }
 
 // The next entry, or the same once more where it was blocked.
@@ -70,9 +68,9 @@ impl Day<'_> {
             feed = asked(rt, &mut self.tape, feed, blocked);
             let entry = piece(&self.tape, feed);
             if !entry.is_empty() {
-                let stepped = step(self.table, self.ring, marks, &mut self.stocks, entry);
-                blocked = number(stepped.answer) == BLOCKED;
-                marks = send(rt.stdout(), self.ring, stepped.marks, takes)?;
+                let answer = step(self.table, self.ring, &mut marks, &mut self.stocks, entry);
+                blocked = answer == Err(Refusal::Blocked);
+                send(rt.stdout(), self.ring, &mut marks, takes)?;
             }
         }
         Ok(marks)
