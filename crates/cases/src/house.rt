@@ -12,7 +12,7 @@ fn firms() -> [Firm; 8] {
 }
 
 pub(crate) fn open(table: &mut [u8], threshold: u32, count: u32) {
-    fresh(
+    let _ = fresh(
         table,
         Settings {
             threshold: Total(threshold),

@@ -137,7 +137,7 @@ fn play_with(rt: HostRuntime, words: Words, draws: bool) -> io::Result<()>
     };
     let out = rt.stdout();
     let takes = words.release;
-    desk::open(day.table);
+    let _ = desk::open(day.table);
     out.write_all(&FIRST_LINE)?;
     let tally = day.play(rt, Reader { takes, draws })?;
     if draws {

@@ -89,9 +89,9 @@ fn play_with(rt: HostRuntime, words: Words) -> io::Result<()>
         stocks: desk::STOCKS,
         tape: [0; 4_096],
     };
-    desk::open(day.table);
-    let marks = day.play(rt, words.release)?;
-    send(rt.stdout(), day.ring, marks, LONGEST_RING)?;
+    let _ = desk::open(day.table);
+    let mut marks = day.play(rt, words.release)?;
+    send(rt.stdout(), day.ring, &mut marks, LONGEST_RING)?;
     Ok(())
 }
 
