@@ -40,7 +40,8 @@ fn send(out: Stdout, ring: &[u8], marks: Marks, takes: usize) -> io::Result<Mark
     Ok(end)
 }
 
-// The next entry, or the same once more where it was blocked.
+// The next entry, or the same once more where it was blocked. `replay` has these lines too: as one function they would be a promise of `feed`, longer
+// than they are.
 fn asked(rt: HostRuntime, tape: &mut [u8], feed: Feed, blocked: bool) -> Feed
     ensures { result.left ≤ feed.left - 1 }
 {
