@@ -35,15 +35,13 @@ fn outcome(answer: Answer, table: &[u8], second: &[u8]) -> Last {
     }
 }
 
-fn taken(answer: Answer, n: usize) -> usize {
-    if answer.is_ok() { n } else { 0 }
-}
-
 // What it has rebuilt is the table from here on.
 pub(crate) fn converted(table: &mut [u8], n: usize) -> Last {
     let mut second = [255u8; SECOND];
     let answer = rebuilt(part(table, 0, OLD_SIZE), &mut second, n);
     let last = outcome(answer, table, &second);
-    put(table, 0, part(&second, 0, taken(answer, n)));
+    if is_done(answer) {
+        put(table, 0, part(&second, 0, n));
+    }
     last
 }

@@ -79,7 +79,8 @@ fn grown(before: Marks, after: Marks) -> u64 {
     after.held.saturating_sub(before.held) as u64
 }
 
-// The next entry, or the same once more where it was blocked.
+// The next entry, or the same once more where it was blocked. `stream` has these lines too: as one function they would be a promise of `feed`, longer
+// than they are.
 fn asked(rt: HostRuntime, tape: &mut [u8], feed: Feed, blocked: bool) -> Feed
     ensures { result.left ≤ feed.left - 1 }
 {

@@ -38,7 +38,8 @@ fn send(out: Stdout, ring: &[u8], marks: &mut Marks, takes: usize) -> io::Result
     Ok(())
 }
 
-// The next entry, or the same once more where it was blocked.
+// The next entry, or the same once more where it was blocked. `replay` has these lines too: as one function they would be a promise of `feed`, longer
+// than they are.
 fn asked(rt: HostRuntime, tape: &mut [u8], feed: Feed, blocked: bool) -> Feed
     ensures { result.left ≤ feed.left - 1 }
 {
