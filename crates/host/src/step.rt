@@ -111,7 +111,8 @@ fn named_place(table: &[u8], entry: &[u8]) -> usize
     used(table)
 }
 
-// What was refused changes nothing.
+// What was refused changes nothing. (Table, ring, marks and list stay parameters: of a struct that lends them together, the proof of `take` has no name
+// for what stands there afterwards.)
 fn settle(
     table: &mut [u8],
     ring: &mut [u8],
