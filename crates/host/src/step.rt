@@ -159,7 +159,7 @@ fn carry_out(
     }
 }
 
-// The first `len` bytes go behind the held ones.
+// The first `len` bytes go behind the held ones. (They come as a slice: the range of an array would leave a goal that has no name of its own.)
 fn append_front(ring: &mut [u8], marks: Marks, bytes: &[u8], len: usize) -> Marks
     requires { (ring_good (length ring.old) marks ≡ true) × ((len ≤ free_bytes (length ring.old) marks) × (len ≤ length bytes.now)) }
     ensures { (result ≡ marks_with marks len) × (ring.new ≡ ring_with ring.old marks (take len bytes.now)) }
