@@ -88,7 +88,13 @@ fn decide_replace(table: &[u8], stocks: &[u8], entry: &[u8], h: Header, named: O
 {
     let e = replace_of(entry);
     let found = order_from(table, find(table, e.replacement));
-    replace(h, named, found, standing(stocks, named.details.kept.stock), e)
+    replace(
+        h,
+        named,
+        found,
+        standing(stocks, named.details.kept.stock),
+        e,
+    )
 }
 
 fn decide_halt(stocks: &[u8], entry: &[u8]) -> Decision

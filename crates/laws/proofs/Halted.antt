@@ -1,9 +1,8 @@
 -- What a step does to the list of stocks: what a plan sets is set, and only h's plan sets anything. Assumes nothing.
-use Rattle.octets.proofs.Proving.{Bool, List, [], ◌∙◌, ◌≡◌, ◌≢◌, ◌⊎◌, ap, eqb, eqb-true, false, false≢true, get_or, inl, inr, not, refl, sym, true, ℕ}
-use Rattle.octets.specs.Choice.{pick, among, ◌⇒◌⨾◌}
+use Rattle.octets.proofs.Proving.{Bool, List, [], ◌∙◌, ◌≡◌, ◌≢◌, ◌⊎◌, ap, false, false≢true, get_or, inl, inr, not, refl, sym, true, ℕ}
+use Rattle.octets.specs.Choice.{◌⇒◌⨾◌}
 use Rattle.answers.specs.Answer.{is_done}
 use Rattle.answers.proofs.Laws.{is-done}
-use Rattle.wire.specs.Letters.{stock_states}
 use Rattle.stocks.specs.Standing.{is_listed}
 use Rattle.stocks.specs.Stocks.{list_good, standing_in, with_state}
 use Rattle.stocks.proofs.Keeps.{set_keeps}

@@ -10,11 +10,9 @@ use tape::entry::System;
 pub fn system(h: Header, e: System) -> Decision
     ensures { result ≡ system_rule h e }
 {
-    if (e.event == b'S') & (h.day == BEFORE) {
-        return beginning(OPEN, e.event);
+    match (e.event, h.day) {
+        (b'S', BEFORE) => beginning(OPEN, e.event),
+        (b'E', OPEN) => beginning(CLOSED, e.event),
+        _ => Err(Refusal::WrongMoment),
     }
-    if (e.event == b'E') & (h.day == OPEN) {
-        return beginning(CLOSED, e.event);
-    }
-    Err(Refusal::WrongMoment)
 }
