@@ -1,5 +1,5 @@
 -- A range in two, the numbers below m and the n behind them: a test that holds of all holds of both, and the counts of both add up. Assumes nothing.
-use Rattle.octets.proofs.Proving.{Bool, ◌&&◌, ◌+◌, ◌∙◌, ◌≡◌, ◌≤◌, add-suc, add-zero, and_assoc, and-true, ap, arith, false, lit≤, suc, sym, true, zero, ℕ}
+use Rattle.octets.proofs.Proving.{Bool, ◌&&◌, ◌+◌, ◌∙◌, ◌≡◌, add-suc, add-zero, and_assoc, and-true, ap, arith, suc, sym, zero, ℕ}
 use Rattle.octets.specs.Choice.{pick, all_below, count_below}
 
 pub all_split : (p : ℕ → Bool) (m n : ℕ) → all_below (m + n) p ≡ (all_below m p && all_below n (λ k. p (m + k)))
