@@ -40,7 +40,7 @@ pub(crate) fn converted(table: &mut [u8], n: usize) -> Last {
     let mut second = [255u8; SECOND];
     let answer = rebuilt(part(table, 0, OLD_SIZE), &mut second, n);
     let last = outcome(answer, table, &second);
-    if is_done(answer) {
+    if answer.is_ok() {
         put(table, 0, part(&second, 0, n));
     }
     last

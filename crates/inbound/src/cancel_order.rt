@@ -18,6 +18,7 @@ pub struct CancelOrder {
 
 impl Body for CancelOrder {
     ghost layout = { cancel_order };
+
     ghost of_bytes = { cancel_order_of };
 
     fn size() -> usize {

@@ -28,6 +28,7 @@ pub struct EnterOrder {
 
 impl Body for EnterOrder {
     ghost layout = { enter_order };
+
     ghost of_bytes = { enter_order_of };
 
     fn size() -> usize {

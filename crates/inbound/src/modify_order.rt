@@ -19,6 +19,7 @@ pub struct ModifyOrder {
 
 impl Body for ModifyOrder {
     ghost layout = { modify_order };
+
     ghost of_bytes = { modify_order_of };
 
     fn size() -> usize {

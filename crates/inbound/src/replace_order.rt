@@ -24,6 +24,7 @@ pub struct ReplaceOrder {
 
 impl Body for ReplaceOrder {
     ghost layout = { replace_order };
+
     ghost of_bytes = { replace_order_of };
 
     fn size() -> usize {

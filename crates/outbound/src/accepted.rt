@@ -21,6 +21,7 @@ pub struct Accepted {
 
 impl Body for Accepted {
     ghost layout = { accepted };
+
     ghost of_bytes = { accepted_of };
 
     fn size() -> usize {

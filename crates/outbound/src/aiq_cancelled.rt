@@ -24,6 +24,7 @@ pub struct AiqCancelled {
 
 impl Body for AiqCancelled {
     ghost layout = { aiq_cancelled };
+
     ghost of_bytes = { aiq_cancelled_of };
 
     fn size() -> usize {

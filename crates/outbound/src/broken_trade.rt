@@ -20,6 +20,7 @@ pub struct BrokenTrade {
 
 impl Body for BrokenTrade {
     ghost layout = { broken_trade };
+
     ghost of_bytes = { broken_trade_of };
 
     fn size() -> usize {

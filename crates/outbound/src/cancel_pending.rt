@@ -17,6 +17,7 @@ pub struct CancelPending {
 
 impl Body for CancelPending {
     ghost layout = { cancel_pending };
+
     ghost of_bytes = { cancel_pending_of };
 
     fn size() -> usize {

@@ -17,6 +17,7 @@ pub struct CancelReject {
 
 impl Body for CancelReject {
     ghost layout = { cancel_reject };
+
     ghost of_bytes = { cancel_reject_of };
 
     fn size() -> usize {

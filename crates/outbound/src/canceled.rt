@@ -21,6 +21,7 @@ pub struct Canceled {
 
 impl Body for Canceled {
     ghost layout = { canceled };
+
     ghost of_bytes = { canceled_of };
 
     fn size() -> usize {

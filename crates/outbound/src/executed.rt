@@ -23,6 +23,7 @@ pub struct Executed {
 
 impl Body for Executed {
     ghost layout = { executed };
+
     ghost of_bytes = { executed_of };
 
     fn size() -> usize {

@@ -21,6 +21,7 @@ pub struct Modified {
 
 impl Body for Modified {
     ghost layout = { modified };
+
     ghost of_bytes = { modified_of };
 
     fn size() -> usize {

@@ -21,6 +21,7 @@ pub struct PriorityUpdate {
 
 impl Body for PriorityUpdate {
     ghost layout = { priority_update };
+
     ghost of_bytes = { priority_update_of };
 
     fn size() -> usize {

@@ -19,6 +19,7 @@ pub struct Rejected {
 
 impl Body for Rejected {
     ghost layout = { rejected };
+
     ghost of_bytes = { rejected_of };
 
     fn size() -> usize {

@@ -22,6 +22,7 @@ pub struct Replaced {
 
 impl Body for Replaced {
     ghost layout = { replaced };
+
     ghost of_bytes = { replaced_of };
 
     fn size() -> usize {

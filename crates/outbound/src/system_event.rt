@@ -17,6 +17,7 @@ pub struct SystemEvent {
 
 impl Body for SystemEvent {
     ghost layout = { system_event };
+
     ghost of_bytes = { system_event_of };
 
     fn size() -> usize {

@@ -1,3 +1,4 @@
 pub mod Opened
 pub mod Codec
 pub mod Faithful
+pub mod Unique

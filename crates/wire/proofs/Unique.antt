@@ -49,3 +49,14 @@ pub spelling-unique : Settled wire.spelling.started.Reads.Post and SettledLent w
     and ((N : ℕ) (fits : Fits w64 N) → SettledLent (wire.spelling.put_text.Reads.Post N fits))
 spelling-unique =
     (λ κs a. settled) also (λ κs a. lent) also (λ κs a. lent) also (λ κs a. lent) also (λ N fits κs a. lent-first)
+
+-- of every message: what its impl gives is among the arguments
+pub read-unique : (T : _) (L : _) (C : _) (body : _) (of : _) (copied : _) (clone : _) → Settled (wire.body.read.Reads.Post T L C body of copied clone)
+read-unique T L C body of copied clone κs a = settled
+
+pub legal-unique : (T : _) (L : _) (C : _) (copied : _) (clone : _) → Settled (wire.body.Reading.legal.Reads.Post T L C copied clone)
+legal-unique T L C copied clone κs a = settled
+
+pub write-unique : (T : _) (L : _) (C : _) (written : _) (how : _) (body : _) (of : _) (copied : _) (clone : _)
+    → SettledBoth (wire.body.write.Reads.Post T L C written how body of copied clone)
+write-unique T L C written how body of copied clone κs a = settled-both
