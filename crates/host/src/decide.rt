@@ -49,6 +49,7 @@ pub(crate) fn comes_to(
 }
 
 // The rule of the entry's kind. `named` is the order that the entry names.
+#[tactic(auto, using(tape::proofs::Formed::long_as), unfolding(crate::proofs::Opened::opened))]
 fn decide(table: &[u8], stocks: &[u8], entry: &[u8], h: Header, named: Order) -> Decision
     requires { (well_formed entry.now ≡ true) × (list_good stocks.now ≡ true) }
     ensures { result ≡ decide_by (kind_of entry.now) h named (order_named table.now (replace_of entry.now).replacement) stocks.now entry.now }

@@ -16,6 +16,7 @@ fn shares_right(o: Order, shares: Removed) -> bool
     !((shares.0 == 0) | shares.exceeds(open_shares(o.shares)))
 }
 
+#[tactic(auto, using(crate::proofs::Room::takes), unfolding(crate::proofs::Opened::opened))]
 pub fn execution(h: Header, o: Order, e: Execution) -> Decision
     ensures { result ≡ execution_rule h o e }
 {
@@ -36,6 +37,7 @@ pub fn book_cancel(o: Order, e: BookCancel) -> Decision
     )
 }
 
+#[tactic(auto, using(crate::proofs::Room::takes), unfolding(crate::proofs::Opened::opened))]
 pub fn self_match(h: Header, o: Order, e: SelfMatch) -> Decision
     ensures { result ≡ self_match_rule h o e }
 {

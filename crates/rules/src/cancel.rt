@@ -33,6 +33,7 @@ fn decrement(o: Order, size: Total) -> Removed
 }
 
 // Liable falls by the decrement. What is left of it is executed, self-matched and the new open, which need not be added up.
+#[tactic(auto, unfolding(orders::specs::Counts::cut, orders::specs::Counts::open_shares, crate::proofs::Opened::opened))]
 fn canceled_order(o: Order, size: Total) -> Order
     requires { (new_open o size).0 < (open_shares o.shares).0 }
     ensures { result ≡ canceled_order o size }
