@@ -142,9 +142,10 @@ fn carry_out(
 }
 
 // The first `len` bytes go behind the held ones. (They come as a slice: the range of an array would leave a goal that has no name of its own.)
-fn append_front(ring: &mut [u8], marks: Marks, bytes: &[u8], len: usize) -> Marks
-    requires { (ring_good (length ring.old) marks ≡ true) × ((len ≤ free_bytes (length ring.old) marks) × (len ≤ length bytes.now)) }
-    ensures { (result ≡ marks_with marks len) × (ring.new ≡ ring_with ring.old marks (take len bytes.now)) }
+fn append_front(ring: &mut [u8], marks: &mut Marks, bytes: &[u8], len: usize)
+    requires { (ring_good (length ring.old) marks.old ≡ true) × ((len ≤ free_bytes (length ring.old) marks.old) × (len ≤ length bytes.now)) }
+    ensures marks_after { marks.new ≡ marks_with marks.old len }
+    ensures ring_after { ring.new ≡ ring_with ring.old marks.old (take len bytes.now) }
 {
     append(ring, marks, &bytes[..len]);
 }
