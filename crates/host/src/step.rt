@@ -98,6 +98,7 @@ fn take(table: &mut [u8], ring: &mut [u8], marks: Marks, stocks: &mut [u8], entr
 }
 
 // Where the order stands that the entry names, in w by a firm and a symbol; behind the used records for s h d n, which name none.
+#[tactic(auto, using(crate::proofs::Names::named), unfolding(crate::proofs::Opened::opened, tape::specs::Entries::names_order))]
 fn named_place(table: &[u8], entry: &[u8]) -> usize
     requires { (sound table.now ≡ true) × (well_formed entry.now ≡ true) }
     ensures { result ≡ named_place table.now entry.now }
