@@ -66,6 +66,7 @@ pub fn step(
 }
 
 // What a step does once table, ring and list are judged. Whoever plays many entries in a row judges once and calls this.
+#[tactic(auto, using(crate::proofs::Offers::leaves), unfolding(crate::proofs::Opened::opened))]
 pub fn offer(
     table: &mut [u8],
     ring: &mut [u8],
@@ -83,6 +84,7 @@ pub fn offer(
 }
 
 // A legal entry: in time or not, and then what it comes to.
+#[tactic(auto, using(crate::proofs::Offers::leaves), unfolding(crate::proofs::Opened::opened))]
 fn take(table: &mut [u8], ring: &mut [u8], marks: Marks, stocks: &mut [u8], entry: &[u8]) -> Stepped
     requires { (sound table.old ≡ true) × ((ring_good (length ring.old) marks ≡ true) × ((list_good stocks.old ≡ true) × (entry_answer entry.now ≡ Done))) }
     ensures { Leaves (offer (world table.old ring.old marks stocks.old) entry.now) result.answer result.marks table.new ring.new stocks.new }

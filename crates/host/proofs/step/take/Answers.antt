@@ -1,28 +1,13 @@
--- In time or not, and then what the entry comes to. Assumes nothing.
+-- A sound table's header is within its limits, and a legal entry holds a stamp. Assumes nothing.
 use Rattle.octets.proofs.Proving.{ap, arith}
 use Rattle.header.specs.declared.Header.{Header}
 use Rattle.table.proofs.Soundness.{of-sound}
 use Rattle.tape.proofs.Formed.{stamp-fits}
-use Rattle.host.specs.Step.{world}
-use Rattle.host.proofs.Offers.{judged-good, early-leaves, settled-leaves}
+use Rattle.host.proofs.Offers.{judged-good}
 use Rattle.host.proofs.step.take.Goals as goal
 
 pub stamp_of-stamp-requires : goal.stamp_of-stamp-requires
 stamp_of-stamp-requires c = stamp-fits _ (judged-good _ c.requires.1.1.1).0
-
-pub returns-then-stamp-h : goal.returns-then-stamp-h
-returns-then-stamp-h c =
-    let last = ap (λ (q : Header). q.last) c.header-h.ensures in
-    rw c.refused.ensures
-    (early-leaves (world c.args.table.now c.args.ring.now c.args.marks c.args.stocks.now) _ c.requires.1.1.1
-    (omega (arith, c.stamp_of-stamp.ensures, last, c.if-stamp-h.true)))
-
-pub named_place-place-requires : goal.named_place-place-requires
-named_place-place-requires c = (c.requires.0, (judged-good _ c.requires.1.1.1).0)
-
-pub comes_to-d-requires : goal.comes_to-d-requires
-comes_to-d-requires c =
-    ((judged-good _ c.requires.1.1.1).0, (c.requires.1.1.0, (c.header-h.ensures, c.named_place-place.ensures)))
 
 pub settle-requires : goal.settle-requires
 settle-requires c =
@@ -35,10 +20,3 @@ settle-requires c =
         (c.header-h.ensures, (omega (arith, used, s.head.used, s.size.most), omega (arith, reference, s.head.highest-reference))),
       ),
     )
-
-pub returns : goal.returns
-returns c =
-    let last = ap (λ (x : Header). x.last) c.header-h.ensures in
-    settled-leaves (world c.args.table.now c.args.ring.now c.args.marks c.args.stocks.now) _ c.requires.1.1.1
-    (omega (arith, c.stamp_of-stamp.ensures, last, c.if-stamp-h.false)) c.named_place-place.ensures c.stamp_of-stamp.ensures c.comes_to-d.ensures
-    c.settle.ensures
