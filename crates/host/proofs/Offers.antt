@@ -75,3 +75,6 @@ module _ (w : World) (place stamp : ℕ) (p : Plan) {s : Sent} (is : s ≡ sent 
   done-leaves h em et er el =
       rw (← long (message stamp p) is, le-ltb _ _ h)
       (record { answered = refl; marked = em; tabled = et; ringed = er ∙ ap (ring_with w.ring w.marks) (front (message stamp p) is); listed = el })
+
+-- what an offer leaves, for the functions that come to it
+pub ruleset leaves = (judged-good, refused-leaves, early-leaves, settled-leaves)

@@ -49,6 +49,7 @@ pub fn step(
 }
 
 // What a step does once table, ring and list are judged. Whoever plays many entries in a row judges once and calls this.
+#[tactic(auto, using(crate::proofs::Offers::leaves), unfolding(crate::proofs::Opened::opened))]
 pub fn offer(
     table: &mut [u8],
     ring: &mut [u8],
@@ -85,6 +86,7 @@ fn take(
 }
 
 // Where the order stands that the entry names, in w by a firm and a symbol; behind the used records for s h d n, which name none.
+#[tactic(auto, using(crate::proofs::Names::named), unfolding(crate::proofs::Opened::opened, tape::specs::Entries::names_order))]
 fn named_place(table: &[u8], entry: &[u8]) -> usize
     requires { (sound table.now ≡ true) × (well_formed entry.now ≡ true) }
     ensures { result ≡ named_place table.now entry.now }

@@ -1,10 +1,9 @@
--- In time or not, and then what the entry comes to. Assumes nothing.
+-- A sound table's header is within its limits, and a legal entry holds a stamp. Assumes nothing.
 use Rattle.octets.proofs.Proving.{ap, arith}
 use Rattle.header.specs.declared.Header.{Header}
 use Rattle.table.proofs.Soundness.{of-sound}
 use Rattle.tape.proofs.Formed.{stamp-fits}
-use Rattle.host.specs.Step.{world}
-use Rattle.host.proofs.Offers.{judged-good, early-leaves, settled-leaves}
+use Rattle.host.proofs.Offers.{judged-good}
 use Rattle.host.proofs.step.take.Goals as goal
 
 pub stamp_of-stamp-requires : goal.stamp_of-stamp-requires
