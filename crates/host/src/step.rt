@@ -65,6 +65,7 @@ pub fn offer(
 }
 
 // A legal entry: in time or not, and then what it comes to.
+#[tactic(auto, using(crate::proofs::Offers::leaves), unfolding(crate::proofs::Opened::opened))]
 fn take(
     table: &mut [u8],
     ring: &mut [u8],

@@ -9,19 +9,6 @@ use Rattle.host.proofs.step.take.Goals as goal
 pub stamp_of-stamp-requires : goal.stamp_of-stamp-requires
 stamp_of-stamp-requires c = stamp-fits _ (judged-good _ c.requires.1.1.1).0
 
-pub returns-then-stamp-h : goal.returns-then-stamp-h
-returns-then-stamp-h c =
-    let last = ap (λ (q : Header). q.last) c.header-h.ensures in
-    (early-leaves (world c.args.table.now c.args.ring.now c.args.marks.now c.args.stocks.now) _ c.requires.1.1.1
-    (omega (arith, c.stamp_of-stamp.ensures, last, c.if-stamp-h.true)))
-
-pub named_place-place-requires : goal.named_place-place-requires
-named_place-place-requires c = (c.requires.0, (judged-good _ c.requires.1.1.1).0)
-
-pub comes_to-d-requires : goal.comes_to-d-requires
-comes_to-d-requires c =
-    ((judged-good _ c.requires.1.1.1).0, (c.requires.1.1.0, (c.header-h.ensures, c.named_place-place.ensures)))
-
 pub settle-requires : goal.settle-requires
 settle-requires c =
     let s = of-sound _ c.requires.0 in
@@ -33,10 +20,3 @@ settle-requires c =
         (c.header-h.ensures, (omega (arith, used, s.head.used, s.size.most), omega (arith, reference, s.head.highest-reference))),
       ),
     )
-
-pub returns : goal.returns
-returns c =
-    let last = ap (λ (x : Header). x.last) c.header-h.ensures in
-    settled-leaves (world c.args.table.now c.args.ring.now c.args.marks.now c.args.stocks.now) _ c.requires.1.1.1
-    (omega (arith, c.stamp_of-stamp.ensures, last, c.if-stamp-h.false)) c.named_place-place.ensures c.stamp_of-stamp.ensures c.comes_to-d.ensures
-    c.settle.ensures
