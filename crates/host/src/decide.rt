@@ -1,6 +1,6 @@
 // What an entry comes to, from the table, the list of stocks and the entry alone: no function here is given the ring.
 ghost use Rattle.std.specs.Prelude.{◌≡◌, true, length};
-ghost use Rattle.stocks.specs.Stocks.{list_good, standing_in};
+ghost use Rattle.stocks.specs.Stocks.{standing_in};
 ghost use Rattle.table.specs.Table.{header, order_named};
 ghost use Rattle.tape.specs.Kinds.{kind_of};
 ghost use Rattle.tape.specs.Entries.{well_formed, enter_of, replace_of, stock_state_of};
@@ -24,7 +24,7 @@ use rules::enter::enter;
 use rules::modify::modify;
 use rules::plan::Decision;
 use rules::replace::replace;
-use stocks::find::standing;
+use stocks::find::Listed;
 use table::find::{find, order_from};
 use table::places::records_in;
 use tape::kinds::{Kind, kind_of};
@@ -36,13 +36,13 @@ use tape::reading::{
 // What a legal entry in time comes to. `place` is where the order stands that it names.
 pub(crate) fn comes_to(
     table: &[u8],
-    stocks: &[u8],
+    stocks: Listed,
     entry: &[u8],
     h: Header,
     place: usize,
 ) -> Decision
-    requires { (well_formed entry.now ≡ true) × ((list_good stocks.now ≡ true) × ((h ≡ header table.now) × (place ≡ named_place table.now entry.now))) }
-    ensures { result ≡ within_limits table.now (decide (books table.now stocks.now) entry.now) }
+    requires { (well_formed entry.now ≡ true) × ((h ≡ header table.now) × (place ≡ named_place table.now entry.now)) }
+    ensures { result ≡ within_limits table.now (decide (books table.now stocks.entry.bytes.now) entry.now) }
 {
     let named = order_from(table, place);
     within_limits(table, h, decide(table, stocks, entry, h, named))
@@ -50,9 +50,9 @@ pub(crate) fn comes_to(
 
 // The rule of the entry's kind. `named` is the order that the entry names.
 #[tactic(auto, using(tape::proofs::Formed::long_as), unfolding(crate::proofs::Opened::opened))]
-fn decide(table: &[u8], stocks: &[u8], entry: &[u8], h: Header, named: Order) -> Decision
-    requires { (well_formed entry.now ≡ true) × (list_good stocks.now ≡ true) }
-    ensures { result ≡ decide_by (kind_of entry.now) h named (order_named table.now (replace_of entry.now).replacement) stocks.now entry.now }
+fn decide(table: &[u8], stocks: Listed, entry: &[u8], h: Header, named: Order) -> Decision
+    requires { well_formed entry.now ≡ true }
+    ensures { result ≡ decide_by (kind_of entry.now) h named (order_named table.now (replace_of entry.now).replacement) stocks.entry.bytes.now entry.now }
 {
     match kind_of(entry) {
         Kind::Enters => decide_enter(stocks, entry, h, named),
@@ -74,36 +74,31 @@ fn decide(table: &[u8], stocks: &[u8], entry: &[u8], h: Header, named: Order) ->
     }
 }
 
-fn decide_enter(stocks: &[u8], entry: &[u8], h: Header, named: Order) -> Decision
-    requires { (length entry.now ≡ 56) × (list_good stocks.now ≡ true) }
-    ensures { result ≡ enter_rule h named (standing_in stocks.now (enter_of entry.now).stock) (enter_of entry.now) }
+fn decide_enter(stocks: Listed, entry: &[u8], h: Header, named: Order) -> Decision
+    requires { length entry.now ≡ 56 }
+    ensures { result ≡ enter_rule h named (standing_in stocks.entry.bytes.now (enter_of entry.now).stock) (enter_of entry.now) }
 {
     let e = enter_of(entry);
-    enter(h, named, standing(stocks, e.stock), e)
+    enter(h, named, stocks.standing(e.stock), e)
 }
 
 // A Replace names two tokens, the existing one and its own, and its stock is that of the order that it replaces.
-fn decide_replace(table: &[u8], stocks: &[u8], entry: &[u8], h: Header, named: Order) -> Decision
-    requires { (length entry.now ≡ 55) × (list_good stocks.now ≡ true) }
-    ensures { result ≡ replace_rule h named (order_named table.now (replace_of entry.now).replacement) (standing_in stocks.now named.details.kept.stock) (replace_of entry.now) }
+fn decide_replace(table: &[u8], stocks: Listed, entry: &[u8], h: Header, named: Order) -> Decision
+    requires { length entry.now ≡ 55 }
+    ensures { result ≡ replace_rule h named (order_named table.now (replace_of entry.now).replacement) (standing_in stocks.entry.bytes.now named.details.kept.stock) (replace_of entry.now) }
 {
     let e = replace_of(entry);
     let found = order_from(table, find(table, e.replacement));
-    replace(
-        h,
-        named,
-        found,
-        standing(stocks, named.details.kept.stock),
-        e,
-    )
+    let standing = stocks.standing(named.details.kept.stock);
+    replace(h, named, found, standing, e)
 }
 
-fn decide_halt(stocks: &[u8], entry: &[u8]) -> Decision
-    requires { (length entry.now ≡ 18) × (list_good stocks.now ≡ true) }
-    ensures { result ≡ halt_rule (standing_in stocks.now (stock_state_of entry.now).symbol) (stock_state_of entry.now) }
+fn decide_halt(stocks: Listed, entry: &[u8]) -> Decision
+    requires { length entry.now ≡ 18 }
+    ensures { result ≡ halt_rule (standing_in stocks.entry.bytes.now (stock_state_of entry.now).symbol) (stock_state_of entry.now) }
 {
     let e = stock_state_of(entry);
-    halt(standing(stocks, e.symbol), e)
+    halt(stocks.standing(e.symbol), e)
 }
 
 // 8: a token must be stored and no record is free, or a reference is needed and none is left. Asked of the plan, so that no rule asks it.

@@ -18,6 +18,7 @@ use outbox::marks::{Marks, ring_good};
 use outbox::put::append;
 use risk::purging::wanted_by;
 use rules::plan::{Decision, Plan};
+use stocks::find::Listed;
 use stocks::judge::list_good;
 use table::find::find;
 use table::places::{header, used};
@@ -82,7 +83,7 @@ fn take(
         return Err(Refusal::TooEarly);
     }
     let place = named_place(table, entry);
-    let d = comes_to(table, stocks, entry, h, place);
+    let d = comes_to(table, Listed { bytes: stocks }, entry, h, place);
     settle(table, ring, marks, stocks, h, place, stamp, d)
 }
 
