@@ -47,9 +47,7 @@ fn bad_stock(stock: &[u8; 8], standing: Standing) -> bool
 fn fault_of_numbers(h: Header, e: EnterOrder) -> Result<Price, u8>
     ensures { result ≡ fault_of_numbers h e }
 {
-    let Some(price) = Price::new(e.price, e.cross) else {
-        return Err(b'X');
-    };
+    let price = Price::new(e.price, e.cross).ok_or(b'X')?;
     if bad_shares(h, e.shares) {
         return Err(b'Z');
     }
