@@ -10,7 +10,8 @@ ghost use Rattle.purge.specs.Purge.{requests};
 
 use crate::order_entry::{DISABLE, ENABLE};
 
-// The length of the message with this type, 0 where there is none: a row of them is cut by it.
+// The length of the message with this type, 0 where there is none: a row of them is cut by it, as a tape and a stream are by the lengths that the C
+// door hands on.
 pub fn request_length(letter: u8) -> usize
     ensures { result ≡ length_for requests letter }
 {

@@ -2,7 +2,8 @@
 ghost use Rattle.std.specs.Prelude.{◌≡◌};
 ghost use Rattle.tape.specs.Kinds.{kind_by, kind_of, layout_of, entry_length};
 
-// By what an entry does, in the order O U X M e c q p l f s h w d n; the last is every other byte. `as` numbers them in this order.
+// By what an entry does, in the order O U X M e c q p l f s h w d n; the last is every other byte, so that a kind
+// is told of any byte, as `kind_by` and the theorems over it do. `as` numbers them in this order.
 #[derive(Clone, Copy)]
 pub enum Kind {
     Enters,
@@ -79,7 +80,7 @@ pub fn length_of(kind: Kind) -> usize
     LENGTHS[kind as usize] as usize
 }
 
-// The same for the kind's letter, as a driver that cuts a tape has it.
+// The same for the kind's letter, as a driver that cuts a tape has it: a number, 0 for no kind, as the C door hands it on (`pq_entry_length`).
 #[tactic(auto, unfolding(crate::specs::Kinds::entry_length))]
 pub fn entry_length(letter: u8) -> usize
     ensures { result ≡ entry_length letter }
