@@ -1,8 +1,8 @@
-// The four messages that a client sends: a struct each, and three functions over it.
+// The four messages that a client sends: a struct each, which says how its fields stand in its bytes.
 //
-// `read_` and `write_` take every input: they judge first, and their answers are the paper's. `parse_` is the step behind `read_` for a caller
-// that has judged already: it takes the fields from bytes of the message's length and does not look at the type.
-#![tactic(auto)]
+// Its reader and its writer are `wire::body`'s `read` and `write`, which take every input: they judge first, and their answers are the paper's.
+// `parse` and `spell` are the steps behind them, for a caller that has judged already.
+#![tactic(auto, unfolding(crate::proofs::Opened::opened))]
 
 pub mod cancel_order;
 pub mod enter_order;

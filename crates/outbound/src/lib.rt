@@ -1,8 +1,8 @@
-// The twelve messages that the host sends: a struct each, and three functions over it.
+// The twelve messages that the host sends: a struct each, which says how its fields stand in its bytes.
 //
-// `read_` and `write_` take every input: they judge first, and their answers are the paper's. `spell_` is the step behind `write_` for a
-// caller whose fields are legal already: the message at the front of eighty bytes.
-#![tactic(auto)]
+// Its reader and its writer are `wire::body`'s `read` and `write`, which take every input: they judge first, and their answers are the paper's.
+// `parse` and `spell` are the steps behind them, for a caller that has judged already.
+#![tactic(auto, unfolding(crate::proofs::Opened::opened))]
 
 pub mod accepted;
 pub mod aiq_cancelled;

@@ -1,5 +1,5 @@
 -- The fields are put one by one, in the layout's order. Assumes nothing.
-use Rattle.outbound.proofs.Codec.{rules, ◌then◌, ends}
+use Rattle.outbound.proofs.Codec.{◌then◌, ends}
 use Rattle.outbound.proofs.stated.put_stated.Goals as goal
 
 pub returns : goal.returns
