@@ -1,6 +1,6 @@
 // The table's header as a value: the day, what has happened in it, and the settings with their firms. Read from the 60 bytes of its value,
 // spelled as them, and judged.
-#![tactic(auto)]
+#![tactic(auto, unfolding(crate::proofs::Opened::opened))]
 
 pub mod firms;
 pub mod settings;

@@ -1,6 +1,6 @@
 // A record of the table as a value: an order with its three counts and its flags, its 80 bytes, when these are sound, whether it is live and what is
 // open of it, and which orders an entry is about that names no token.
-#![tactic(auto)]
+#![tactic(auto, unfolding(crate::proofs::Opened::opened))]
 
 pub mod counts;
 pub mod flags;

@@ -1,5 +1,5 @@
 // The three messages that a client sends to the purge port: a struct for each shape, read as every message is (`wire::body`).
-#![tactic(auto)]
+#![tactic(auto, unfolding(crate::proofs::Opened::opened))]
 
 pub mod mass_cancel;
 pub mod order_entry;

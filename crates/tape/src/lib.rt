@@ -1,5 +1,5 @@
 // A tape is a row of entries: kinds, their lengths, judging an entry and reading it into a value.
-#![tactic(auto)]
+#![tactic(auto, unfolding(crate::proofs::Opened::opened))]
 
 pub mod cutting;
 pub mod entry;
