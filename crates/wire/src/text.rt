@@ -19,17 +19,15 @@ pub fn is_token_byte(b: u8) -> bool
 pub fn is_shaped(s: &[u8]) -> bool
     ensures { result ≡ shaped s.now }
 {
-    if s.len() == 0 {
+    let [first, rest @ ..] = s else {
         return false;
-    }
-    let mut ok = is_capital(s[0]);
+    };
+    let mut ok = is_capital(*first);
     let mut blank = false;
-    let mut i = 1;
-    while i < s.len() {
-        let space = s[i] == b' ';
-        ok = ok & (space | (!blank & is_capital(s[i])));
-        blank = blank | space;
-        i += 1;
+    for b in rest {
+        let space = *b == b' ';
+        ok &= space | (!blank & is_capital(*b));
+        blank |= space;
     }
     ok
 }
