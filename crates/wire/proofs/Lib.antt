@@ -1,5 +1,4 @@
 pub mod Opened
-pub mod Gathered
 pub mod Shapes
 pub mod Tokens
 pub mod Numbered

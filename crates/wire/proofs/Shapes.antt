@@ -1,5 +1,6 @@
 -- Capitals, then spaces, judged from left to right: what one byte more does to the verdict. Assumes nothing.
 use Rattle.octets.proofs.Proving.{Bool, List, [], ◌&&◌, ◌+◌, ◌-◌, ◌<◌, ◌||◌, ◌∷◌, ◌≡◌, ◌≤◌, add-one, and-true, arith, drop, drop-cons, drop_of_length-le, eqb, false, get_or, leb, leb-true, length, ne_eqb, not, refl, suc, take, take_all, true, ℕ}
+use Rattle.std.specs.Char.{is_ascii_uppercase}
 use Rattle.octets.specs.Choice.{pick}
 use Rattle.octets.specs.Bytes.{all_are}
 use Rattle.wire.specs.Letters.{space}
@@ -8,6 +9,11 @@ use Rattle.wire.specs.Text.{capital, capitals_then_spaces, shaped}
 -- what may still come: only spaces once a space has come
 abbrev pub rest : Bool → List ℕ → Bool
 rest blank xs = pick blank (all_are space xs) (capitals_then_spaces xs)
+
+-- the capitals are those of ASCII
+pub upper : (b : ℕ) → is_ascii_uppercase b ≡ capital b
+unfolding capital
+upper b = refl
 
 -- a capital is no space
 no-space : (b : ℕ) → capital b ≡ true → eqb b space ≡ false

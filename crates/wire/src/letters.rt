@@ -1,5 +1,7 @@
 // The sets of letters that the paper names, a question each. A byte is compared with each letter and the answers are gathered, so none of
 // them branches.
+#![tactic(auto, unfolding(octets::specs::Choice::among))]
+
 ghost use Rattle.std.specs.Prelude.{◌≡◌};
 ghost use Rattle.octets.specs.Choice.{among};
 ghost use Rattle.wire.specs.Letters.{sides, sell_sides, sweeps, displays, capacities, crosses, opening_or_closing, liquidity_flags, book_reasons, system_events, stock_states};

@@ -1,5 +1,7 @@
 // Where a field's bytes are bad. One question for each thing that the paper judges; messages and entries both ask them, at their own
 // offsets. That nothing is bad is that there is no first bad place.
+#![tactic(auto, unfolding(crate::specs::Layout::bad_place))]
+
 ghost use Rattle.std.specs.Prelude.{◌≡◌, ◌+◌, ◌<◌, ◌≤◌, length};
 ghost use Rattle.octets.specs.Bytes.{part};
 ghost use Rattle.wire.specs.Letters.{sides, sweeps, liquidity_flags, book_reasons, system_events, stock_states};
@@ -47,7 +49,7 @@ pub fn bad_limit_price(s: &[u8], at: usize) -> Option<usize>
     ensures { result ≡ bad_place (between lowest_price highest_price) at (part s.now at 4) }
 {
     let price = octets::be32(s, at);
-    unless((Price::LOWEST <= price) & (price <= Price::HIGHEST), at)
+    unless(matches!(price, Price::LOWEST..=Price::HIGHEST), at)
 }
 
 // A number of two bytes that is to be 0.

@@ -4,11 +4,11 @@ ghost use Rattle.std.specs.Prelude.{◌≡◌, ◌+◌, ◌<◌, ◌^◌};
 ghost use Rattle.wire.specs.Shares.{◌is_below◌, ◌equals◌, ◌less◌, ◌grown_by◌, ◌cut_by◌, ◌exceeds◌, ◌minus◌};
 
 // Liable, executed, self-matched, an intended size, the Shares of O, U and M, a threshold.
-#[derive(Clone, Copy)]
+#[derive(Clone, Copy, PartialEq, Eq, PartialOrd, Ord, Default)]
 pub struct Total(pub u32);
 
 // A decrement, an execution, what is open, a minimum.
-#[derive(Clone, Copy)]
+#[derive(Clone, Copy, PartialEq, Eq, PartialOrd, Ord, Default)]
 pub struct Removed(pub u32);
 
 impl Total {
@@ -28,10 +28,7 @@ impl Total {
     pub fn less(self, other: Total) -> Removed
         ensures { result ≡ self less other }
     {
-        if other.0 < self.0 {
-            return Removed(self.0 - other.0);
-        }
-        Removed(0)
+        Removed(self.0.saturating_sub(other.0))
     }
 
     pub fn grown_by(self, by: Removed) -> Total
@@ -45,10 +42,7 @@ impl Total {
     pub fn cut_by(self, by: Removed) -> Total
         ensures { result ≡ self cut_by by }
     {
-        if by.0 < self.0 {
-            return Total(self.0 - by.0);
-        }
-        Total(0)
+        Total(self.0.saturating_sub(by.0))
     }
 }
 
@@ -62,9 +56,6 @@ impl Removed {
     pub fn minus(self, other: Removed) -> Removed
         ensures { result ≡ self minus other }
     {
-        if other.0 < self.0 {
-            return Removed(self.0 - other.0);
-        }
-        Removed(0)
+        Removed(self.0.saturating_sub(other.0))
     }
 }
