@@ -1,4 +1,5 @@
 pub mod Opened
+pub mod Gathered
 pub mod Shapes
 pub mod Tokens
 pub mod Numbered
