@@ -92,6 +92,7 @@ pub fn message_length(inbound: bool, letter: u8) -> usize
     length_from_host(letter)
 }
 
+#[tactic(auto, unfolding(crate::specs::Messages::length_for, crate::specs::Layout::layout_for))]
 fn length_from_client(letter: u8) -> usize
     ensures { result ≡ length_for inbound letter }
 {
@@ -104,6 +105,7 @@ fn length_from_client(letter: u8) -> usize
     }
 }
 
+#[tactic(auto, unfolding(crate::specs::Messages::length_for, crate::specs::Layout::layout_for))]
 fn length_from_host(letter: u8) -> usize
     ensures { result ≡ length_for outbound letter }
 {
