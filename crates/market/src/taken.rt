@@ -13,7 +13,7 @@ use wire::shares::Removed;
 fn shares_right(o: Order, shares: Removed) -> bool
     ensures { result ≡ shares_right o shares }
 {
-    !((shares.0 == 0) | shares.exceeds(open_shares(o.shares)))
+    !((shares == Removed(0)) | (shares > open_shares(o.shares)))
 }
 
 #[tactic(auto, using(crate::proofs::Room::takes), unfolding(crate::proofs::Opened::opened))]

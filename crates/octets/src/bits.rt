@@ -2,6 +2,7 @@
 ghost use Rattle.std.specs.Prelude.{◌≡◌, false, ◌<◌, ◌≤◌, ◌^◌, ltb};
 ghost use Rattle.octets.specs.Bits.{bit_of, with_bit};
 
+#[tactic(auto, using(crate::proofs::BitLaws::bit_shifted))]
 pub fn bit_of(b: u8, k: usize) -> bool
     requires { k < 8 }
     ensures { result ≡ bit_of b k }

@@ -45,7 +45,8 @@ pub struct Order {
     pub details: Details,
 }
 
-// What stands for a token that no record has.
+// What stands for a token that no record has. By hand (c): of the runs of bytes `default` says each byte, and that they are the zeros of the
+// specs does not close.
 pub fn no_order() -> Order
     ensures { result ≡ no_order }
 {
@@ -137,10 +138,11 @@ pub fn with_details(o: Order, details: Details) -> Order
 }
 
 // The order with these counts. An order whose open reaches 0 is dead: every rule that changes counts does it here.
+#[tactic(auto, unfolding(crate::specs::Order::dead_if_spent))]
 pub fn dead_if_spent(o: Order, shares: Counts) -> Order
     ensures { result ≡ dead_if_spent o shares }
 {
-    let state = if open_shares(shares).0 == 0 {
+    let state = if open_shares(shares) == Removed(0) {
         b'D'
     } else {
         o.state

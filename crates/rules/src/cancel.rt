@@ -22,7 +22,7 @@ fn cancel_ignored(o: Order, size: Total) -> bool
     ensures { result ≡ cancel_ignored o size }
 {
     let present = open_shares(o.shares);
-    !is_live(o) | !present.exceeds(new_open(o, size)) | is(o, Flag::Pending)
+    !is_live(o) | (present <= new_open(o, size)) | is(o, Flag::Pending)
 }
 
 fn decrement(o: Order, size: Total) -> Removed
@@ -45,7 +45,7 @@ fn canceled_order(o: Order, size: Total) -> Order
 fn late_cancel(o: Order, size: Total) -> Decision
     ensures { result ≡ late_cancel o size }
 {
-    if size.equals(Total(0)) {
+    if size == Total(0) {
         return changing(marked(o, Flag::Pending), Notice::CancelPending);
     }
     if is(o, Flag::RejectSent) {

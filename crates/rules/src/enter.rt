@@ -28,13 +28,13 @@ pub(crate) fn bad_display(display: u8, cross: u8) -> bool
 pub(crate) fn bad_shares(h: Header, shares: Total) -> bool
     ensures { result ≡ bad_shares h shares }
 {
-    shares.equals(Total(0)) | !shares.is_below(h.threshold)
+    (shares == Total(0)) | (h.threshold <= shares)
 }
 
 pub(crate) fn bad_minimum(minimum: Removed, time: u32, shares: Removed) -> bool
     ensures { result ≡ bad_minimum minimum time shares }
 {
-    (minimum.exceeds(Removed(0)) & (time != 0)) | minimum.exceeds(shares)
+    ((minimum > Removed(0)) & (time != 0)) | (minimum > shares)
 }
 
 fn bad_stock(stock: &[u8; 8], standing: Standing) -> bool

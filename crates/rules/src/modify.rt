@@ -25,8 +25,8 @@ fn modify_ignored(h: Header, o: Order, e: ModifyOrder) -> bool
         | is(o, Flag::Late)
         | !side_allowed(o.side, e.side)
         | !gone_is_below(o.shares, e.shares)
-        | o.shares.liable.is_below(e.shares)
-        | ((o.side == e.side) & o.shares.liable.equals(e.shares))
+        | (o.shares.liable < e.shares)
+        | ((o.side == e.side) & (o.shares.liable == e.shares))
 }
 
 fn modified_order(o: Order, e: ModifyOrder) -> Order

@@ -18,4 +18,3 @@ pub mod RoundTrips
 pub mod Sendable
 pub mod Codec
 pub mod Unique
-pub mod Left

@@ -1,10 +1,10 @@
 -- What the sixteen layouts have in common: none is longer than the longest message, none leaves a gap, and each type is a byte.
 -- Assumes nothing.
-use Rattle.octets.proofs.Proving.{Bool, List, List·get_d-eq-default, [], ◌&&◌, ◌+◌, ◌<◌, ◌∷◌, ◌≡◌, ◌≤◌, ap, ap₂, arith, dec_lt, leb, leb-true, ltb, ltb-true, map, refl, true, ℕ}
+use Rattle.octets.proofs.Proving.{Bool, List·get_d-eq-default, ◌&&◌, ◌<◌, ◌≡◌, ◌≤◌, ap, arith, dec_lt, leb, leb-true, ltb, ltb-true, refl, true, ℕ}
 use Rattle.octets.proofs.Below.{all-at, both}
 use Rattle.octets.specs.Choice.{all_below}
 use Rattle.wire.specs.Limits.{longest_message}
-use Rattle.wire.specs.Layout.{Layout, Field, shifted, unbroken, well_laid}
+use Rattle.wire.specs.Layout.{Layout, unbroken, well_laid}
 use Rattle.wire.specs.Messages.{messages, no_message, message_layout}
 
 -- ---- a test of every number below n that antt computes
@@ -38,10 +38,3 @@ unfolding all_below Tests laid well_laid unbroken
 well-laid k h =
     let a = both (well_laid (message_layout k)) _ (tested (λ (j : ℕ). laid (message_layout j)) 16 refl k h) in
     (a.0, ltb-true (message_layout k).code 256 a.1)
-
--- what stands no bytes further on stands where it stood
-pub unmoved : (fs : List Field) → map (shifted 0) fs ≡ fs
-unmoved [] = refl
-unmoved (f ∷ fs) =
-    let same : f.at + 0 ≡ f.at = omega arith in
-    ap₂ (λ (at : ℕ) (gs : List Field). record { at = at; width = f.width; form = f.form; rule = f.rule } ∷ gs) same (unmoved fs)

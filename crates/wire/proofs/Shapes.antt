@@ -1,5 +1,6 @@
 -- Capitals, then spaces, judged from left to right: what one byte more does to the verdict. Assumes nothing.
-use Rattle.octets.proofs.Proving.{Bool, List, [], ◌&&◌, ◌+◌, ◌<◌, ◌||◌, ◌∷◌, ◌≡◌, ◌≤◌, add-one, and-true, arith, drop, drop-cons, drop_of_length-le, eqb, false, get_or, leb, leb-true, length, ne_eqb, not, refl, suc, true, ℕ}
+use Rattle.octets.proofs.Proving.{Bool, List, [], ◌&&◌, ◌+◌, ◌-◌, ◌<◌, ◌||◌, ◌∷◌, ◌≡◌, ◌≤◌, add-one, and-true, arith, drop, drop-cons, drop_of_length-le, eqb, false, get_or, leb, leb-true, length, ne_eqb, not, refl, suc, take, take_all, true, ℕ}
+use Rattle.std.specs.Char.{is_ascii_uppercase}
 use Rattle.octets.specs.Choice.{pick}
 use Rattle.octets.specs.Bytes.{all_are}
 use Rattle.wire.specs.Letters.{space}
@@ -8,6 +9,11 @@ use Rattle.wire.specs.Text.{capital, capitals_then_spaces, shaped}
 -- what may still come: only spaces once a space has come
 abbrev pub rest : Bool → List ℕ → Bool
 rest blank xs = pick blank (all_are space xs) (capitals_then_spaces xs)
+
+-- the capitals are those of ASCII
+pub upper : (b : ℕ) → is_ascii_uppercase b ≡ capital b
+unfolding capital
+upper b = refl
 
 -- a capital is no space
 no-space : (b : ℕ) → capital b ≡ true → eqb b space ≡ false
@@ -40,15 +46,16 @@ shaped-next s i ok blank h =
     let xs : List ℕ = drop (suc i) s in
     rw (add-one, drop-cons s i 0) (judged (capital b) (eqb b space) ok blank (all_are space xs) (capitals_then_spaces xs) (no-space b))
 
-pub shaped-none : (s : List ℕ) → length s ≡ 0 → shaped s ≡ false
+pub shaped-none : (s : List ℕ) → length s < 1 → false ≡ shaped s
 unfolding shaped
 shaped-none [] h = refl
 shaped-none (b ∷ bs) h = absurd (omega arith)
 
-pub shaped-first : (s : List ℕ) → 0 < length s → shaped s ≡ (capital (get_or s 0 0) && rest false (drop 1 s))
+-- of its first byte, and of the slice behind it
+pub shaped-first : (s : List ℕ) → 1 ≤ length s → shaped s ≡ (capital (get_or s 0 0) && rest false (take (length s - 1) (drop 1 s)))
 unfolding shaped
 shaped-first [] h = absurd (omega arith)
-shaped-first (b ∷ bs) h = refl
+shaped-first (b ∷ bs) h = rw (take_all (length (b ∷ bs) - 1) bs (omega arith)) refl
 
 -- none is left
 pub shaped-end : (s : List ℕ) (i : ℕ) (ok blank : Bool) → length s ≤ i → (ok && rest blank (drop i s)) ≡ ok

@@ -35,13 +35,9 @@ places-unique =
     (λ κs a. settled) also (λ κs a. settled) also (λ κs a. settled) also (λ κs a. settled) also (λ κs a. settled) also (λ κs a. settled) also (λ κs a. settled)
     also (λ κs a. settled) also (λ κs a. settled) also (λ κs a. settled) also (λ κs a. settled) also (λ κs a. settled)
 
-pub shares-unique : Settled wire.shares.Total.is_below.Reads.Post and Settled wire.shares.Total.equals.Reads.Post
-    and Settled wire.shares.Total.less.Reads.Post and Settled wire.shares.Total.grown_by.Reads.Post
-    and Settled wire.shares.Total.cut_by.Reads.Post and Settled wire.shares.Removed.exceeds.Reads.Post
-    and Settled wire.shares.Removed.minus.Reads.Post
-shares-unique =
-    (λ κs a. settled) also (λ κs a. settled) also (λ κs a. settled) also (λ κs a. settled) also (λ κs a. settled) also (λ κs a. settled)
-    also (λ κs a. settled)
+pub shares-unique : Settled wire.shares.Total.less.Reads.Post and Settled wire.shares.Total.grown_by.Reads.Post
+    and Settled wire.shares.Total.cut_by.Reads.Post and Settled wire.shares.Removed.minus.Reads.Post
+shares-unique = (λ κs a. settled) also (λ κs a. settled) also (λ κs a. settled) also (λ κs a. settled)
 
 -- these answer nothing but for the first: what they leave is settled
 pub spelling-unique : Settled wire.spelling.started.Reads.Post and SettledLent wire.spelling.put_letter.Reads.Post

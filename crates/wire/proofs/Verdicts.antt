@@ -1,5 +1,5 @@
 -- What a reader and a writer answer, by what the code found on its way there. Assumes nothing.
-use Rattle.octets.proofs.Proving.{Bool, List, ◌&&◌, ◌++◌, ◌∙◌, ◌≡◌, ◌≤◌, ap, ap₂, arith, drop, eq-eqb, eqb, eqb-true, false, false≢true, get_or, length, length-take-le, ltb, le-ltb, lt-ltb, ltb-false, ◌<◌, ne_eqb, not, refl, sym, take, true, zero-add, ℕ}
+use Rattle.octets.proofs.Proving.{Bool, List, ◌&&◌, ◌++◌, ◌∙◌, ◌≡◌, ◌≤◌, ap, ap₂, arith, drop, eq-eqb, eqb, eqb-true, false, false≢true, get_or, length, length-take-le, ltb, le-ltb, ltb-false, ne_eqb, not, refl, sym, take, true, zero-add, ℕ}
 use Rattle.std.specs.Prelude.{Option, None, Some, Err}
 use Rattle.octets.specs.Choice.{◌⇒◌⨾◌}
 use Rattle.octets.specs.Bytes.{put}
@@ -72,27 +72,12 @@ module _ (l : Layout) (spelled buffer : List ℕ) {n : ℕ} (e : n ≡ l.size) {
   there : found ≡ first_bad_place l.fields (take l.size spelled)
   there = rw e at f
 
-  pub bad-sent : {answer : Answer} {r : Refusal} → answer ≡ (bad_at found ⨾ Done) → answer ≡ Err r
-      → (Err r ≡ write_answer l (take l.size spelled) buffer) × (buffer ≡ buffer_after l (take l.size spelled) buffer)
-  unfolding write_answer buffer_after if_done is_done
-  bad-sent {answer} {r} a d = go found there (sym d ∙ a)
-    where
-      go : (o : Option ℕ) → o ≡ first_bad_place l.fields (take l.size spelled) → Err r ≡ (bad_at o ⨾ Done)
-          → (Err r ≡ write_answer l (take l.size spelled) buffer) × (buffer ≡ buffer_after l (take l.size spelled) buffer)
-      go None h k = absurd (not-refused k)
-      go (Some at) h k = rw (← h) (k, refl)
-
   fine : {answer : Answer} → answer ≡ (bad_at found ⨾ Done) → answer ≡ Done → None ≡ first_bad_place l.fields (take l.size spelled)
   fine {answer} a d = go found there (sym d ∙ a)
     where
       go : (o : Option ℕ) → o ≡ first_bad_place l.fields (take l.size spelled) → Done ≡ (bad_at o ⨾ Done) → None ≡ first_bad_place l.fields (take l.size spelled)
       go None h k = h
       go (Some at) h k = absurd (not-refused (sym k))
-
-  pub short-sent : {answer : Answer} → answer ≡ (bad_at found ⨾ Done) → answer ≡ Done → length buffer < n
-      → (NoRoom ≡ write_answer l (take l.size spelled) buffer) × (buffer ≡ buffer_after l (take l.size spelled) buffer)
-  unfolding write_answer buffer_after if_done is_done
-  short-sent a d h = rw (← fine a d, lt-ltb (length buffer) l.size (omega (arith, e, h))) (refl, refl)
 
   pub sent : {answer : Answer} → answer ≡ (bad_at found ⨾ Done) → answer ≡ Done → n ≤ length buffer → l.size ≤ length spelled
       → {exit : List ℕ} → exit ≡ put buffer 0 (take n spelled)

@@ -67,6 +67,7 @@ impl<M: Copy> Reading<M> {
 }
 
 // Takes every input: it judges first, and its answers are the paper's.
+#[tactic(auto, unfolding(crate::specs::Messages::legal_or_zeros, answers::specs::Answer::if_done, answers::specs::Answer::is_done))]
 pub fn read<M: Body>(s: &[u8]) -> Reading<M>
     ensures { result ≡ read_as M.layout M.of_bytes s.now }
 {
@@ -92,6 +93,7 @@ pub fn write<M: Written>(buffer: &mut [u8], m: M) -> Answer
 }
 
 // The message with which the spelled bytes begin.
+#[tactic(auto, unfolding(crate::specs::Messages::write_answer, crate::specs::Messages::buffer_after, answers::specs::Answer::if_done, answers::specs::Answer::is_done))]
 pub fn send(buffer: &mut [u8], spelled: [u8; 80], m: Message) -> Answer
     ensures { (result ≡ write_answer (message_layout (number m)) (take (message_layout (number m)).size spelled) buffer.old) × (buffer.new ≡ buffer_after (message_layout (number m)) (take (message_layout (number m)).size spelled) buffer.old) }
 {

@@ -8,6 +8,7 @@ use crate::places::{bad_side, bad_stamp, bad_sweep, bad_token, unless_bad};
 use answers::{Answer, Refusal};
 
 // Length and type, then the judged fields.
+#[tactic(auto, unfolding(crate::specs::Messages::read_answer, crate::specs::Messages::framed))]
 pub fn judge(s: &[u8], m: Message) -> Answer
     ensures { result ≡ read_answer (message_layout (number m)) s.now }
 {
@@ -25,6 +26,7 @@ pub fn is_framed(s: &[u8], size: usize, letter: u8) -> bool
 }
 
 // Where the first bad byte of a message stands: of tokens and stamps everywhere, of side and sweep in what a client sends.
+#[tactic(auto, unfolding(crate::specs::Layout::first_bad_place, crate::specs::Layout::bad_place))]
 pub(crate) fn first_bad(s: &[u8], m: Message) -> Option<usize>
     requires { length s.now ≡ (message_layout (number m)).size }
     ensures { result ≡ first_bad_place (message_layout (number m)).fields s.now }
@@ -39,6 +41,7 @@ pub(crate) fn first_bad(s: &[u8], m: Message) -> Option<usize>
 }
 
 // The same of what a client sends, wherever it stands: an entry of a tape has it eight bytes further on, behind its stamp.
+#[tactic(auto, unfolding(crate::specs::Layout::first_bad_place, crate::specs::Layout::bad_place))]
 pub fn bad_inbound(s: &[u8], from: usize, m: Message) -> Option<usize>
     requires { (number m < 4) × ((message_layout (number m)).size + from ≤ length s.now) }
     ensures { result ≡ first_bad_place (fields_from from (number m)) s.now }

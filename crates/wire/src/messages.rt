@@ -80,6 +80,7 @@ pub fn message_length(inbound: bool, letter: u8) -> usize
     length_from_host(letter)
 }
 
+#[tactic(auto, unfolding(crate::specs::Messages::length_for, crate::specs::Layout::layout_for))]
 fn length_from_client(letter: u8) -> usize
     ensures { result ≡ length_for inbound letter }
 {
@@ -92,6 +93,7 @@ fn length_from_client(letter: u8) -> usize
     }
 }
 
+#[tactic(auto, unfolding(crate::specs::Messages::length_for, crate::specs::Layout::layout_for))]
 fn length_from_host(letter: u8) -> usize
     ensures { result ≡ length_for outbound letter }
 {

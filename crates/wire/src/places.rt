@@ -1,16 +1,17 @@
 // Where a field's bytes are bad. One question for each thing that the paper judges; messages and entries both ask them, at their own
 // offsets. That nothing is bad is that there is no first bad place.
+#![tactic(auto, unfolding(crate::specs::Layout::bad_place, octets::specs::Choice::text))]
+
 ghost use Rattle.std.specs.Prelude.{◌≡◌, ◌+◌, ◌<◌, ◌≤◌, length};
 ghost use Rattle.octets.specs.Bytes.{part};
+ghost use Rattle.octets.specs.Choice.{text};
 ghost use Rattle.wire.specs.Letters.{sides, sweeps, liquidity_flags, book_reasons, system_events, stock_states};
 ghost use Rattle.wire.specs.Limits.{stamp_end, lowest_price, highest_price};
 ghost use Rattle.answers.specs.Answer.{Done};
 ghost use Rattle.wire.specs.Messages.{bad_at◌⨾◌};
 ghost use Rattle.wire.specs.Layout.{unless, bad_place, below, between, one_of, legal_token, blank};
 
-use crate::letters::{
-    is_book_reason, is_liquidity_flag, is_side, is_stock_state, is_sweep, is_system_event,
-};
+use crate::letters::{is_among, is_stock_state};
 use crate::price::Price;
 use crate::text::is_token_byte;
 use answers::{Answer, Refusal};
@@ -47,7 +48,7 @@ pub fn bad_limit_price(s: &[u8], at: usize) -> Option<usize>
     ensures { result ≡ bad_place (between lowest_price highest_price) at (part s.now at 4) }
 {
     let price = octets::be32(s, at);
-    unless((Price::LOWEST <= price) & (price <= Price::HIGHEST), at)
+    unless(matches!(price, Price::LOWEST..=Price::HIGHEST), at)
 }
 
 // A number of two bytes that is to be 0.
@@ -79,39 +80,47 @@ pub fn bad_token(s: &[u8], at: usize) -> Option<usize>
     None
 }
 
+// A byte that is to be one of these letters.
+fn bad_letter<const N: usize>(s: &[u8], at: usize, letters: [u8; N]) -> Option<usize>
+    requires { at < length s.now }
+    ensures { (set : _) → text set ≡ letters.entry → result ≡ bad_place (one_of set) at (part s.now at 1) }
+{
+    unless(is_among(letters, octets::byte_at(s, at)), at)
+}
+
 pub fn bad_side(s: &[u8], at: usize) -> Option<usize>
     requires { at < length s.now }
     ensures { result ≡ bad_place (one_of sides) at (part s.now at 1) }
 {
-    unless(is_side(octets::byte_at(s, at)), at)
+    bad_letter(s, at, *b"BSTE")
 }
 
 pub fn bad_sweep(s: &[u8], at: usize) -> Option<usize>
     requires { at < length s.now }
     ensures { result ≡ bad_place (one_of sweeps) at (part s.now at 1) }
 {
-    unless(is_sweep(octets::byte_at(s, at)), at)
+    bad_letter(s, at, *b"YNy")
 }
 
 pub fn bad_liquidity_flag(s: &[u8], at: usize) -> Option<usize>
     requires { at < length s.now }
     ensures { result ≡ bad_place (one_of liquidity_flags) at (part s.now at 1) }
 {
-    unless(is_liquidity_flag(octets::byte_at(s, at)), at)
+    bad_letter(s, at, *b"AROMCLHKJmkV")
 }
 
 pub fn bad_book_reason(s: &[u8], at: usize) -> Option<usize>
     requires { at < length s.now }
     ensures { result ≡ bad_place (one_of book_reasons) at (part s.now at 1) }
 {
-    unless(is_book_reason(octets::byte_at(s, at)), at)
+    bad_letter(s, at, *b"ITSDZE")
 }
 
 pub fn bad_system_event(s: &[u8], at: usize) -> Option<usize>
     requires { at < length s.now }
     ensures { result ≡ bad_place (one_of system_events) at (part s.now at 1) }
 {
-    unless(is_system_event(octets::byte_at(s, at)), at)
+    bad_letter(s, at, *b"SE")
 }
 
 pub fn bad_stock_state(s: &[u8], at: usize) -> Option<usize>

@@ -15,10 +15,11 @@ impl Price {
     pub const MARKET: u32 = 2_147_483_647;
 
     // A limit price, or the market price where the order is for the opening or the closing cross.
+    #[tactic(auto, unfolding(crate::specs::Price::priced_of, crate::specs::Price::good_price))]
     pub fn new(price: u32, cross: u8) -> Option<Price>
         ensures { result ≡ priced_of price cross }
     {
-        let limit = (Price::LOWEST <= price) & (price <= Price::HIGHEST);
+        let limit = matches!(price, Price::LOWEST..=Price::HIGHEST);
         let market = (price == Price::MARKET) & is_opening_or_closing(cross);
         if limit | market {
             return Some(Price(price));

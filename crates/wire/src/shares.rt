@@ -1,37 +1,22 @@
 // The two kinds of share number. A total counts from the start of an order's chain; removed shares are the step between two totals. The two
 // meet here and, where an order's executed and self-matched shares are added over 64 bits, in `orders::counts`, and nowhere else.
 ghost use Rattle.std.specs.Prelude.{◌≡◌, ◌+◌, ◌<◌, ◌^◌};
-ghost use Rattle.wire.specs.Shares.{◌is_below◌, ◌equals◌, ◌less◌, ◌grown_by◌, ◌cut_by◌, ◌exceeds◌, ◌minus◌};
+ghost use Rattle.wire.specs.Shares.{◌less◌, ◌grown_by◌, ◌cut_by◌, ◌minus◌};
 
 // Liable, executed, self-matched, an intended size, the Shares of O, U and M, a threshold.
-#[derive(Clone, Copy)]
+#[derive(Clone, Copy, PartialEq, Eq, PartialOrd, Ord, Default)]
 pub struct Total(pub u32);
 
 // A decrement, an execution, what is open, a minimum.
-#[derive(Clone, Copy)]
+#[derive(Clone, Copy, PartialEq, Eq, PartialOrd, Ord, Default)]
 pub struct Removed(pub u32);
 
 impl Total {
-    pub fn is_below(self, other: Total) -> bool
-        ensures { result ≡ self is_below other }
-    {
-        self.0 < other.0
-    }
-
-    pub fn equals(self, other: Total) -> bool
-        ensures { result ≡ self equals other }
-    {
-        self.0 == other.0
-    }
-
     // The step down to another total; none where that is not below.
     pub fn less(self, other: Total) -> Removed
         ensures { result ≡ self less other }
     {
-        if other.0 < self.0 {
-            return Removed(self.0 - other.0);
-        }
-        Removed(0)
+        Removed(self.0.saturating_sub(other.0))
     }
 
     pub fn grown_by(self, by: Removed) -> Total
@@ -45,26 +30,15 @@ impl Total {
     pub fn cut_by(self, by: Removed) -> Total
         ensures { result ≡ self cut_by by }
     {
-        if by.0 < self.0 {
-            return Total(self.0 - by.0);
-        }
-        Total(0)
+        Total(self.0.saturating_sub(by.0))
     }
 }
 
 impl Removed {
-    pub fn exceeds(self, other: Removed) -> bool
-        ensures { result ≡ self exceeds other }
-    {
-        other.0 < self.0
-    }
     // What goes from these down to the others; nothing where those are not below.
     pub fn minus(self, other: Removed) -> Removed
         ensures { result ≡ self minus other }
     {
-        if other.0 < self.0 {
-            return Removed(self.0 - other.0);
-        }
-        Removed(0)
+        Removed(self.0.saturating_sub(other.0))
     }
 }

@@ -1,35 +1,27 @@
 // The shapes of text that the paper names: what a token holds, and how a stock or a firm is written.
 ghost use Rattle.std.specs.Prelude.{◌≡◌};
-ghost use Rattle.wire.specs.Text.{capital, small, digit, token_byte, shaped};
-
-fn is_capital(b: u8) -> bool
-    ensures { result ≡ capital b }
-{
-    (b'A' <= b) & (b <= b'Z')
-}
+ghost use Rattle.wire.specs.Text.{token_byte, shaped};
 
 // A letter, a digit or a space.
 pub fn is_token_byte(b: u8) -> bool
     ensures { result ≡ token_byte b }
 {
-    is_capital(b) | ((b'a' <= b) & (b <= b'z')) | ((b'0' <= b) & (b <= b'9')) | (b == b' ')
+    b.is_ascii_alphanumeric() | (b == b' ')
 }
 
 // One capital at least, then capitals, then spaces to the end: stocks and firms of any length. Once a space has come only spaces may follow.
 pub fn is_shaped(s: &[u8]) -> bool
     ensures { result ≡ shaped s.now }
 {
-    if s.len() == 0 {
+    let [first, rest @ ..] = s else {
         return false;
-    }
-    let mut ok = is_capital(s[0]);
+    };
+    let mut ok = first.is_ascii_uppercase();
     let mut blank = false;
-    let mut i = 1;
-    while i < s.len() {
-        let space = s[i] == b' ';
-        ok = ok & (space | (!blank & is_capital(s[i])));
-        blank = blank | space;
-        i += 1;
+    for b in rest {
+        let space = *b == b' ';
+        ok &= space | (!blank & b.is_ascii_uppercase());
+        blank |= space;
     }
     ok
 }

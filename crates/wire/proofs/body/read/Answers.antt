@@ -1,5 +1,5 @@
 -- The answer is the judge's, and the fields are those of what it let through. Assumes nothing.
-use Rattle.octets.proofs.Proving.{◌∙◌, ◌≡◌, ◌-◌, ap, refl, replicate, rules, sub-zero, sym, take, ℕ}
+use Rattle.octets.proofs.Proving.{◌∙◌, ◌≡◌, ◌-◌, ap, replicate, rules, sub-zero, sym, take, ℕ}
 use Rattle.std.specs.Prelude.{Err}
 use Rattle.octets.specs.Bytes.{zeros}
 use Rattle.octets.proofs.Laws.{take-zeros}
@@ -10,10 +10,6 @@ use Rattle.wire.proofs.body.read.Goals as goal
 
 pub parse-requires : goal.parse-requires
 parse-requires g c = ((done-exactly g.M.Body.layout c.args.s.now).0 (sym c.judged-answer.ensures ∙ c.in-Ok.is)).long
-
-pub returns-in-Ok : goal.returns-in-Ok
-unfolding legal_or_zeros if_done is_done
-returns-in-Ok g c = rw (c.parse.ensures, ← c.judged-answer.ensures, c.in-Ok.is) refl
 
 pub returns-in-Err : goal.returns-in-Err
 unfolding legal_or_zeros if_done is_done

@@ -1,26 +1,24 @@
--- The loop's invariant: the text is shaped where what was seen is and the rest may follow it. The measure is what is left of the length.
--- Assumes nothing.
-use Rattle.octets.proofs.Proving.{Bool, ◌&&◌, ◌∙◌, ap, drop, false, rules, sym}
-use Rattle.wire.proofs.Shapes.{rest, shaped-none, shaped-first, shaped-next, shaped-end}
+-- A byte more is judged by what was seen before it. Assumes nothing.
+use Rattle.octets.proofs.Proving.{Bool, ◌&&◌, ◌-◌, ◌∙◌, ap, drop, false, length, sym, take}
+use Rattle.wire.proofs.Shapes.{rest, upper, shaped-none, shaped-first, shaped-next, shaped-end}
 use Rattle.wire.proofs.text.is_shaped.Goals as goal
 
-pub returns-then-s-eq0 : goal.returns-then-s-eq0
-returns-then-s-eq0 c = sym (shaped-none c.args.s.now c.if-s-eq0.true)
+pub returns-in_default : goal.returns-in_default
+returns-in_default c = shaped-none c.args.s.now c.in_default.len_below
 
-pub loop-i-init : goal.loop-i-init
-loop-i-init c =
-    let a = c.args in
-    shaped-first a.s.now (search rules) ∙ ap (λ (b : Bool). b && rest false (drop 1 a.s.now)) (sym c.is_capital-ok.ensures)
+pub loop-b-init : goal.loop-b-init
+loop-b-init c =
+    let s = c.args.s.now in
+    shaped-first s c.in-len1-up.len_at_least ∙ ap (λ (b : Bool). b && rest false (take (length s - 1) (drop 1 s))) (sym (c.is_ascii_uppercase-ok.ensures.value ∙ upper _))
 
-pub loop-i-preserved : goal.loop-i-preserved
-loop-i-preserved c =
-    let p = c in
-    let a = p.args in
-    let l = c.loop-i in
-    rw c.is_capital.ensures (l.invariant ∙ shaped-next a.s.now l.i l.ok l.blank (search rules))
+pub loop-b-preserved : goal.loop-b-preserved
+loop-b-preserved c =
+    let s = c.args.s.now in
+    let l = c.loop-b in
+    rw (c.is_ascii_uppercase.ensures.value, upper) (l.invariant ∙ shaped-next (take (length s - 1) (drop 1 s)) l.b-index l.ok l.blank c.loop-b-test.true)
 
 pub returns : goal.returns
 returns c =
-    let a = c.args in
-    let l = c.loop-i in
-    sym (l.invariant ∙ shaped-end a.s.now l.i l.ok l.blank (search rules))
+    let s = c.args.s.now in
+    let l = c.loop-b in
+    sym (l.invariant ∙ shaped-end (take (length s - 1) (drop 1 s)) l.b-index l.ok l.blank c.loop-b-test.false)

@@ -1,7 +1,0 @@
--- The letter is judged as the number that its byte spells. Assumes nothing.
-use Rattle.wire.specs.Layout.{bad_place}
-use Rattle.wire.proofs.places.bad_stock_state.Goals as goal
-
-pub returns : goal.returns
-unfolding bad_place
-returns c = rw (c.unless.ensures, c.is_stock_state.ensures, c.byte_at.ensures)
