@@ -1,7 +1,6 @@
 // What the status call says of all orders, where a script asks it.
 use crate::run::Run;
 use crate::text::Text;
-use answers::number;
 use std::io;
 use std::io::Write;
 use table::status::status;
@@ -10,9 +9,8 @@ pub(crate) fn asked(table: &[u8], run: Run, out: &mut Text) -> io::Result<()> {
     if !run.asks {
         return Ok(());
     }
-    let tally = status(table);
-    if tally.answer.is_ok() {
-        return write!(out, ", in all {} live, {} open", tally.live, tally.shares);
+    match status(table) {
+        Ok(tally) => write!(out, ", in all {} live, {} open", tally.live, tally.shares),
+        Err(refusal) => write!(out, ", status {}", refusal.number()),
     }
-    write!(out, ", status {}", number(tally.answer))
 }

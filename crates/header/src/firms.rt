@@ -37,7 +37,8 @@ pub fn meant_firm(h: Header, firm: [u8; 4]) -> [u8; 4]
     firm
 }
 
-// The first place that holds the firm; the count where none does.
+// The first place that holds the firm; the count where none does, as the definition `firm_place` has it, of which `is_listed` and the theorems of
+// the blocked firms' bits speak.
 pub fn firm_place(h: Header, firm: [u8; 4]) -> usize
     ensures { result ≡ firm_place h firm }
 {

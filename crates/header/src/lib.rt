@@ -35,6 +35,7 @@ pub const FIRST_REFERENCE: u64 = 1;
 
 pub const END_OF_REFERENCES: u64 = 1_000_000_000_000_000_000;
 
+// The day stays its byte: a header holds every byte as it came, in a damaged table too (`header_of`).
 #[derive(Clone, Copy)]
 pub struct Header {
     pub day: u8,

@@ -27,7 +27,7 @@ use Rattle.market.specs.Halt.{halt_rule}
 use Rattle.notices.specs.Notices.{message}
 use Rattle.stocks.specs.Stocks.{list_good, standing_in, with_state}
 use Rattle.outbox.specs.Outbox.{ring_good, free_bytes, ring_with, marks_with}
-use Rattle.host.specs.Types.{Answer, Done, NotSound, WrongRing, WrongStocks, Malformed, TooEarly, Full, Blocked, Marks, Header, Order, Begins, Nothing, Day, Block, StockState, Plan, Decision}
+use Rattle.host.specs.Types.{Answer, Done, NotSound, WrongRing, WrongStocks, Malformed, TooEarly, Full, Blocked, Marks, Header, Order, Begins, Day, Block, StockState, Plan, Decision}
 
 -- what entries read and change: the table, and the list of stocks (Ask 2)
 pub record Books : Type 0 where
@@ -89,16 +89,16 @@ one_if b = pick b 1 0
 unfoldable pub store_if : List ℕ → ℕ → Order → List ℕ
 store_if t i o = pick (is_used o) (store_order t i o) t
 
-abbrev pub day_after : ℕ → Begins → ℕ
-day_after day Nothing = day
-day_after day (Day begun) = begun
-day_after day (Block place on) = day
+abbrev pub day_after : ℕ → Option Begins → ℕ
+day_after day None = day
+day_after day (Some (Day begun)) = begun
+day_after day (Some (Block place on)) = day
 
 -- d and n set and clear the firm's bit (Ask 5)
-abbrev pub blocked_after : Header → Begins → ℕ
-blocked_after h Nothing = h.blocked
-blocked_after h (Day begun) = h.blocked
-blocked_after h (Block place on) = blocked_with h place on
+abbrev pub blocked_after : Header → Option Begins → ℕ
+blocked_after h None = h.blocked
+blocked_after h (Some (Day begun)) = h.blocked
+blocked_after h (Some (Block place on)) = blocked_with h place on
 
 -- a done entry's stamp becomes the last stamp
 unfoldable pub header_after : Header → ℕ → Plan → Header

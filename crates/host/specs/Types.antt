@@ -8,5 +8,5 @@ pub use Rattle.orders.specs.declared.order.Order.{Order}
 pub use Rattle.tape.specs.declared.entry.StockState.{StockState}
 pub use Rattle.rules.specs.Types.{Decision}
 pub use Rattle.rules.specs.declared.plan.Begins.{Begins}
-pub use Rattle.rules.specs.declared.plan.Begins.TheVariants.{Nothing, Day, Block}
+pub use Rattle.rules.specs.declared.plan.Begins.TheVariants.{Day, Block}
 pub use Rattle.rules.specs.declared.plan.Plan.{Plan}

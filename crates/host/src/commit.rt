@@ -25,22 +25,22 @@ fn store_if(table: &mut [u8], i: usize, o: Order)
 }
 
 // The day that begins, or the day as it is.
-fn day_after(day: u8, begins: Begins) -> u8
+fn day_after(day: u8, begins: Option<Begins>) -> u8
     ensures { result ≡ day_after day begins }
 {
     match begins {
-        Begins::Day(begun) => begun,
-        Begins::Nothing | Begins::Block(_, _) => day,
+        Some(Begins::Day(begun)) => begun,
+        Some(Begins::Block(_, _)) | None => day,
     }
 }
 
 // The blocked firms' bits, with that of a firm that is blocked or let in again.
-fn blocked_after(h: Header, begins: Begins) -> u8
+fn blocked_after(h: Header, begins: Option<Begins>) -> u8
     ensures { result ≡ blocked_after h begins }
 {
     match begins {
-        Begins::Block(place, on) => blocked_with(h, place, on),
-        Begins::Nothing | Begins::Day(_) => h.blocked,
+        Some(Begins::Block(place, on)) => blocked_with(h, place, on),
+        Some(Begins::Day(_)) | None => h.blocked,
     }
 }
 

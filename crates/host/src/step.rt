@@ -87,7 +87,8 @@ fn take(
     settle(table, ring, marks, stocks, h, place, stamp, d)
 }
 
-// Where the order stands that the entry names, in w by a firm and a symbol; behind the used records for s h d n, which name none.
+// Where the order stands that the entry names, in w by a firm and a symbol; behind the used records for s h d n, which name none, as the definition
+// `named_place` has it, of which the theorems of `laws` and `day` speak.
 #[tactic(auto, using(crate::proofs::Names::named), unfolding(crate::proofs::Opened::opened, tape::specs::Entries::names_order))]
 fn named_place(table: &[u8], entry: &[u8]) -> usize
     requires { (sound table.now ≡ true) × (well_formed entry.now ≡ true) }

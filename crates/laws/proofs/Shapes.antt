@@ -1,6 +1,6 @@
 -- The shapes that a plan may have, and what every decision of the rules keeps; first each kind of plan, then each change of a live order.
 -- Assumes nothing.
-use Rattle.std.specs.Prelude.{None, Ok, Err}
+use Rattle.std.specs.Prelude.{Option, Some, None, Ok, Err}
 use Rattle.octets.proofs.Proving.{Bool, List, ◌&&◌, ◌+◌, ◌-◌, ◌≡◌, ◌≤◌, arith, eqb, false, inl, length, not, refl, true, ℕ}
 use Rattle.octets.specs.Bytes.{zeros}
 use Rattle.answers.specs.Answer.{answer_number}
@@ -15,7 +15,7 @@ use Rattle.orders.proofs.Standing.{Live}
 use Rattle.rules.specs.Plan.{answer_of, plan_of, refused, changing, renumbering, accepting, replacing as replacing_by, rejecting, beginning, blocking, setting}
 use Rattle.laws.specs.Blocked.{is_blocked}
 use Rattle.laws.specs.Cancels.{executions_plus_open}
-use Rattle.laws.proofs.Types.{Answer, Order, Plan, StockState, Decision, Begins, Nothing, Day, Block, Notice, Silent, SystemEvent, Accepted, Replaced, Canceled, AiqCancelled, Executed, Rejected, CancelPending, CancelReject, PriorityUpdate, Modified}
+use Rattle.laws.proofs.Types.{Answer, Order, Plan, StockState, Decision, Begins, Day, Block, Notice, Silent, SystemEvent, Accepted, Replaced, Canceled, AiqCancelled, Executed, Rejected, CancelPending, CancelReject, PriorityUpdate, Modified}
 use Rattle.laws.proofs.Standing.{Standing, live_state, counted}
 
 -- ---- what a plan does to the order that the entry names, and what it adds
@@ -105,10 +105,10 @@ pub data Shape (named found : Order) (token : List ℕ) (p : Plan) : Type 0 wher
       → Born token named.shares.executed.0 named.token p.added → p.notice ≡ Replaced → Shape named found token p
 
 -- the day that begins is one of the three
-abbrev pub Begun : Begins → Type 0
-Begun Nothing = Unit {0}
-Begun (Day day) = day ≤ day_closed
-Begun (Block place on) = Unit {0}
+abbrev pub Begun : Option Begins → Type 0
+Begun None = Unit {0}
+Begun (Some (Day day)) = day ≤ day_closed
+Begun (Some (Block place on)) = Unit {0}
 
 -- the answers of the rules' own: not 3, which judging the entry gives, and not 9: that is asked of the ring alone, which the rules never see
 abbrev pub of_rules : Answer → Bool

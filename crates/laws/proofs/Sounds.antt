@@ -1,5 +1,6 @@
 -- A step that is done keeps a sound table sound: the named order's record, the record behind the used ones, and the header are each written
 -- with something good, and nothing else is touched. Assumes nothing.
+use Rattle.std.specs.Prelude.{Option, Some, None}
 use Rattle.octets.proofs.Proving.{Bool, List, ◌&&◌, ◌+◌, ◌<◌, ◌^◌, ◌∙◌, ◌≡◌, ◌≢◌, ◌≤◌, ◌⊎◌, ap, arith, eqb, eqb-false, false, false≢true, inl, inr, leb, leb-false, length, refl, subst, sym, true, ℕ}
 use Rattle.answers.specs.Answer.{is_done}
 use Rattle.wire.specs.Letters.{live, dead}
@@ -23,7 +24,7 @@ use Rattle.tape.specs.Entries.{stamp_of}
 use Rattle.rules.specs.Plan.{answer_of, plan_of}
 use Rattle.host.specs.Step.{Books, one_if, named_place, store_if, day_after, blocked_after, header_after, committed, no_record_free, no_reference_left, decide, comes_to}
 use Rattle.laws.specs.Records.{Paper, EveryRecord}
-use Rattle.laws.proofs.Types.{Decision, Plan, Order, Header, Begins, Nothing, Day, Block}
+use Rattle.laws.proofs.Types.{Decision, Plan, Order, Header, Begins, Day, Block}
 use Rattle.laws.proofs.Standing.{Standing}
 use Rattle.laws.proofs.Shapes.{Shaped, Change, unchanged, changed, Addition, nothing, rejected, born, Begun, change-of, addition-of}
 use Rattle.laws.proofs.Clipped.{clipped, stored-clipped, whole-clipped, good-clipped}
@@ -200,20 +201,20 @@ module _ (books : Books) (s : List ℕ) (ok : sound books.table ≡ true) (done 
   unfolding header_after
   day-good = by p.begins K.1.1.begins
     where
-      by : (b : Begins) → Begun b → day_after h.day b ≤ day_closed
-      by Nothing g = S.head.day
-      by (Day day) g = g
-      by (Block k on) g = S.head.day
+      by : (b : Option Begins) → Begun b → day_after h.day b ≤ day_closed
+      by None g = S.head.day
+      by (Some (Day day)) g = g
+      by (Some (Block k on)) g = S.head.day
 
   -- no bit past the firm count
   blocked-good : after.blocked < 2 ^ h.count
   unfolding header_after
   blocked-good = by p.begins
     where
-      by : (b : Begins) → blocked_after h b < 2 ^ h.count
-      by Nothing = S.head.blocked
-      by (Day day) = S.head.blocked
-      by (Block k on) = blocked-lt h k on S.head.blocked
+      by : (b : Option Begins) → blocked_after h b < 2 ^ h.count
+      by None = S.head.blocked
+      by (Some (Day day)) = S.head.blocked
+      by (Some (Block k on)) = blocked-lt h k on S.head.blocked
 
   used-good : after.used ≤ records_in t
   unfolding header_after

@@ -21,7 +21,7 @@ pub use Rattle.header.specs.declared.Header.{Header}
 pub use Rattle.orders.specs.declared.order.Order.{Order}
 pub use Rattle.rules.specs.Types.{Decision}
 pub use Rattle.rules.specs.declared.plan.Begins.{Begins}
-pub use Rattle.rules.specs.declared.plan.Begins.TheVariants.{Nothing, Day, Block}
+pub use Rattle.rules.specs.declared.plan.Begins.TheVariants.{Day, Block}
 pub use Rattle.rules.specs.declared.plan.Plan.{Plan}
 pub use Rattle.rules.specs.declared.plan.Notice.{Notice}
 pub use Rattle.rules.specs.declared.plan.Notice.TheVariants.{Accepted, AiqCancelled, CancelPending, CancelReject, Canceled, Executed, Modified, PriorityUpdate, Rejected, Replaced, Silent, SystemEvent}

@@ -35,6 +35,7 @@ pub struct Details {
     pub spare: u8,
 }
 
+// The letters stay letters: a record holds every byte as it came, in a damaged table too (`order_of`).
 #[derive(Clone, Copy)]
 pub struct Order {
     pub state: u8,
@@ -45,8 +46,9 @@ pub struct Order {
     pub details: Details,
 }
 
-// What stands for a token that no record has. By hand (c): of the runs of bytes `default` says each byte, and that they are the zeros of the
-// specs does not close.
+// What stands for a token that no record has. It is no `Option`: a record that is not used has state 0 as well, and `is_used` asks both alike in the
+// rules' definitions and the theorems of the day.
+// By hand (c): of the runs of bytes `default` says each byte, and that they are the zeros of the specs does not close.
 pub fn no_order() -> Order
     ensures { result ≡ no_order }
 {

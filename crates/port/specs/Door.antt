@@ -1,10 +1,12 @@
 -- What a C caller's numbers and bytes stand for.
-use Rattle.std.specs.Prelude.{ℕ, ◌+◌, ◌*◌, ◌/◌, ◌%◌, ◌≡◌, Bool, ◌&&◌, List, [], ◌∷◌, length, leb, eqb}
+use Rattle.std.specs.Prelude.{ℕ, ◌+◌, ◌*◌, ◌/◌, ◌%◌, ◌≡◌, Bool, ◌&&◌, List, [], ◌∷◌, Result, length, leb, eqb}
+use Rattle.answers.specs.declared.Refusal.{Refusal}
 use Rattle.answers.specs.Answer.{answer_number, answer_place}
 use Rattle.header.specs.Limits.{firm_size, most_firms}
 use Rattle.header.specs.declared.settings.Firm.{Firm}
 use Rattle.header.specs.declared.settings.Settings.{Settings}
 use Rattle.host.specs.Step.{Outcome}
+use Rattle.table.specs.Status.{number_told, tally_told}
 use Rattle.table.specs.declared.status.Tally.{Tally}
 use Rattle.octets.specs.Bytes.{part, zeros}
 use Rattle.octets.specs.Choice.{pick}
@@ -47,8 +49,8 @@ pub record Left (o : Outcome) (number place : ℕ) (table ring : List ℕ) (afte
   pub marked : after ≡ o.world.marks
   pub listed : stocks ≡ o.world.books.stocks
 
--- what the status call leaves him with (Ask 6): the number of the answer, and two numbers behind pointers
-pub record Stated (t : Tally) (number live shares : ℕ) : Type 0 where
-  pub numbered : number ≡ answer_number t.answer
-  pub lives : live ≡ t.live
-  pub opens : shares ≡ t.shares
+-- what the status call leaves him with (Ask 6): the number of the answer, and two numbers behind pointers, zeros where it is refused
+pub record Stated (told : Result Tally Refusal) (number live shares : ℕ) : Type 0 where
+  pub numbered : number ≡ number_told told
+  pub lives : live ≡ (tally_told told).live
+  pub opens : shares ≡ (tally_told told).shares

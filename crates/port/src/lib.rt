@@ -28,7 +28,7 @@ use outbox::read::read;
 use outbox::release::release;
 use stamping::stamped;
 use table::fresh::fresh;
-use table::status::status;
+use table::status::{Tally, status};
 use tape::kinds::entry_length;
 use wire::messages::message_length;
 
@@ -62,15 +62,15 @@ pub fn pq_step(
     number(answer)
 }
 
-// How many orders are live, and how many shares are open of them, as the table says; both are written by every call.
+// How many orders are live, and how many shares are open of them, as the table says; both are written by every call, zeros where it is refused.
 pub fn pq_status(table: &[u8], live: &mut usize, shares: &mut usize) -> u8
     ensures { Stated (status table.now) result live.new shares.new }
 {
-    let told = status(table);
+    let answer = status(table);
+    let told = answer.unwrap_or(Tally { live: 0, shares: 0 });
     *live = told.live;
     *shares = told.shares;
-    let answer = told.answer;
-    number(answer)
+    number(answer.and(Ok(())))
 }
 
 // An old table rebuilt as one of today.

@@ -38,7 +38,7 @@ pub extern "C" fn pq_step(
     port::pq_step(table, ring, at, held, stocks, entry, place)
 }
 
-// How many orders are live, and how many shares are open of them, as the table says; both are written by every call.
+// How many orders are live, and how many shares are open of them, as the table says; both are written by every call, zeros where it is refused.
 #[unsafe(no_mangle)]
 pub extern "C" fn pq_status(table: &[u8], live: &mut usize, shares: &mut usize) -> u8
     ensures { Stated (status table.now) result live.new shares.new }

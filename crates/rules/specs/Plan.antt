@@ -1,5 +1,5 @@
 -- The decisions that there are: a refusal, or a plan. A plan says all that a done entry changes beside the last stamp:
---     begins    the day that begins, or the place of a firm and whether it is blocked from now on (Ask 5), or Nothing
+--     begins    the day that begins, or the place of a firm and whether it is blocked from now on (Ask 5); None if neither
 --     changed   the order that the entry names, as it is afterwards; no_order if it stays as it is
 --     added     what the first free record holds afterwards; no_order if it stays free
 --     numbered  whether the order that is changed or added has taken the next reference
@@ -9,11 +9,11 @@ use Rattle.std.specs.Prelude.{ℕ, Bool, true, false, List, Some, None, Ok, Err}
 use Rattle.answers.specs.Answer.{is_done}
 use Rattle.octets.specs.Choice.{first_of◌, ◌⇒◌⨾◌}
 use Rattle.orders.specs.Order.{no_order, rejected_order}
-use Rattle.rules.specs.Types.{Order, Answer, Plan, Nothing, Day, Block, StockState, Decision, Notice, Silent, Rejected, Accepted, Replaced, SystemEvent, Done, Ignored}
+use Rattle.rules.specs.Types.{Order, Answer, Plan, Day, Block, StockState, Decision, Notice, Silent, Rejected, Accepted, Replaced, SystemEvent, Done, Ignored}
 
 -- nothing changes and nothing is told
 abbrev pub empty_plan : Plan
-empty_plan = record { begins = Nothing; changed = no_order; added = no_order; numbered = false; notice = Silent; stock = None }
+empty_plan = record { begins = None; changed = no_order; added = no_order; numbered = false; notice = Silent; stock = None }
 
 -- ---- a decision's answer, and its plan: the empty one where it is a refusal
 
@@ -67,11 +67,11 @@ rejecting token reason = Ok (record empty_plan { added = rejected_order token; n
 
 -- System Event, sets day
 unfoldable pub beginning : ℕ → ℕ → Decision
-beginning day event = Ok (record empty_plan { begins = Day day; notice = SystemEvent event })
+beginning day event = Ok (record empty_plan { begins = Some (Day day); notice = SystemEvent event })
 
 -- a firm's bit, and nothing is sent (Ask 5)
 unfoldable pub blocking : ℕ → Bool → Decision
-blocking place on = Ok (record empty_plan { begins = Block place on })
+blocking place on = Ok (record empty_plan { begins = Some (Block place on) })
 
 -- a stock's state, and nothing is sent (Ask 2)
 unfoldable pub setting : StockState → Decision

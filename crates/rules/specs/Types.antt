@@ -23,7 +23,7 @@ pub use Rattle.orders.specs.declared.order.Order.{Order}
 pub use Rattle.rules.specs.declared.plan.Notice.{Notice}
 pub use Rattle.rules.specs.declared.plan.Notice.TheVariants.{Accepted, AiqCancelled, CancelPending, CancelReject, Canceled, Executed, Modified, PriorityUpdate, Rejected, Replaced, Silent, SystemEvent}
 pub use Rattle.rules.specs.declared.plan.Begins.{Begins}
-pub use Rattle.rules.specs.declared.plan.Begins.TheVariants.{Nothing, Day, Block}
+pub use Rattle.rules.specs.declared.plan.Begins.TheVariants.{Day, Block}
 pub use Rattle.rules.specs.declared.plan.Plan.{Plan}
 
 -- what a rule decides: a plan, or why the entry is refused

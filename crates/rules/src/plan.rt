@@ -7,7 +7,8 @@ use orders::order::{Order, no_order, rejected_order};
 use tape::entry::{Execution, SelfMatch, StockState};
 use wire::shares::Removed;
 
-// What is told, beside the stamp and what the plan's orders hold.
+// What is told, beside the stamp and what the plan's orders hold. That nothing is told is a notice too: each plan has one, by whose cases the laws'
+// `Shape` and `subject` and the day's `tells` go.
 #[derive(Clone, Copy)]
 pub enum Notice {
     Silent,
@@ -24,9 +25,9 @@ pub enum Notice {
     Modified,
 }
 
+// What begins, where something does.
 #[derive(Clone, Copy)]
 pub enum Begins {
-    Nothing,
     // the day's number in the header from now on
     Day(u8),
     // a firm's place in the header's list, and whether it is blocked from now on
@@ -34,10 +35,10 @@ pub enum Begins {
 }
 
 // All that a done entry changes beside the last stamp. An order of state 0 stands for none: so the message reads the orders straight, and the laws'
-// `Shape` speaks of both in every plan.
+// `Shape`, `Changed` and `Born` and the day's chains speak of both in every plan.
 #[derive(Clone, Copy)]
 pub struct Plan {
-    pub begins: Begins,
+    pub begins: Option<Begins>,
     // the order that the entry names, as it is afterwards; none if it stays as it is
     pub changed: Order,
     // what the first free record holds afterwards; none if it stays free
@@ -57,7 +58,7 @@ fn empty_plan() -> Plan
     ensures { result ≡ empty_plan }
 {
     Plan {
-        begins: Begins::Nothing,
+        begins: None,
         changed: no_order(),
         added: no_order(),
         numbered: false,
@@ -125,7 +126,7 @@ pub fn beginning(day: u8, event: u8) -> Decision
     ensures { result ≡ beginning day event }
 {
     Ok(Plan {
-        begins: Begins::Day(day),
+        begins: Some(Begins::Day(day)),
         notice: Notice::SystemEvent(event),
         ..empty_plan()
     })
@@ -136,7 +137,7 @@ pub fn blocking(place: usize, on: bool) -> Decision
     ensures { result ≡ blocking place on }
 {
     Ok(Plan {
-        begins: Begins::Block(place, on),
+        begins: Some(Begins::Block(place, on)),
         ..empty_plan()
     })
 }

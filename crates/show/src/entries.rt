@@ -6,7 +6,7 @@ use crate::line::{
     end_line, say_firm, say_head, say_letter, say_number, say_price, say_refused, say_stamp,
     say_stock, say_token,
 };
-use answers::place;
+use answers::Refusal;
 use std::io;
 use std::io::Stdout;
 use tape::judging::judge;
@@ -18,12 +18,15 @@ use tape::reading::{
 
 // By the kind. An entry that is bad in itself is shown by its answer, and with a bad field by a line that points at its first bad byte.
 pub(crate) fn show_entry(out: Stdout, s: &[u8]) -> io::Result<()> {
-    let answer = judge(s);
-    if answer.is_ok() {
-        return show_legal(out, s);
+    match judge(s) {
+        Ok(()) => show_legal(out, s),
+        Err(refusal) => show_refused(out, s, refusal),
     }
-    say_refused(out, b"Entry", answer)?;
-    let at = place(answer);
+}
+
+fn show_refused(out: Stdout, s: &[u8], refusal: Refusal) -> io::Result<()> {
+    say_refused(out, b"Entry", refusal)?;
+    let at = refusal.place();
     match s.get(at) {
         Some(b) if at != 0 => point_at(out, kind_of(s), at, *b),
         _ => Ok(()),

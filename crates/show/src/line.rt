@@ -1,5 +1,5 @@
 // The pieces of a line.
-use answers::{Answer, number};
+use answers::Refusal;
 use listing::clock::clock;
 use listing::price::behind_point;
 use std::io;
@@ -82,8 +82,8 @@ pub(crate) fn say_head(out: Stdout, name: &[u8], stamp: u64, token: [u8; 14]) {
     say_token(out, b" ", token);
 }
 
-pub(crate) fn say_refused(out: Stdout, name: &[u8], answer: Answer) -> io::Result<()> {
+pub(crate) fn say_refused(out: Stdout, name: &[u8], refusal: Refusal) -> io::Result<()> {
     say(out, name);
-    say_number(out, b" refused with ", number(answer) as u64);
+    say_number(out, b" refused with ", refusal.number() as u64);
     end_line(out)
 }

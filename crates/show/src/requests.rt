@@ -1,6 +1,6 @@
 // A row of messages as clients send them to the purge port, one line a message.
 use crate::line::{end_line, say, say_account, say_firm, say_number, say_refused, say_symbol};
-use answers::{Answer, place};
+use answers::Refusal;
 use purge::mass_cancel::MassCancel;
 use purge::order_entry::{Disable, Enable, OrderEntry};
 use std::io;
@@ -30,7 +30,7 @@ fn show_mass_cancel(out: Stdout, s: &[u8]) -> io::Result<()> {
             say_number(out, b" appendage ", m.appendage_length as u64);
             end_line(out)
         }
-        Err(refusal) => show_refused(out, b"Mass Cancel", Err(refusal)),
+        Err(refusal) => show_refused(out, b"Mass Cancel", refusal),
     }
 }
 
@@ -48,15 +48,15 @@ fn show_order_entry<const LETTER: u8>(
             say_account(out, m.account);
             end_line(out)
         }
-        Err(refusal) => show_refused(out, name, Err(refusal)),
+        Err(refusal) => show_refused(out, name, refusal),
     }
 }
 
 // By its answer, and with a bad field by a line that names it. The place is the field's first byte, which need not be the bad one, so it stands
 // there without its byte.
-fn show_refused(out: Stdout, name: &[u8], answer: Answer) -> io::Result<()> {
-    say_refused(out, name, answer)?;
-    let at = place(answer);
+fn show_refused(out: Stdout, name: &[u8], refusal: Refusal) -> io::Result<()> {
+    say_refused(out, name, refusal)?;
+    let at = refusal.place();
     if at == 0 {
         return Ok(());
     }

@@ -34,7 +34,7 @@ fn show<M: Shown>(out: Stdout, s: &[u8]) -> io::Result<()> {
             m.say(out);
             end_line(out)
         }
-        Err(refusal) => say_refused(out, M::name(), Err(refusal)),
+        Err(refusal) => say_refused(out, M::name(), refusal),
     }
 }
 

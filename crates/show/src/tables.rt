@@ -1,7 +1,7 @@
 // A table: whether it is sound and what it keeps of its live orders, the day, a line for each firm, and one for each used record.
 use crate::line::{end_line, say, say_firm, say_number, say_refused, say_stamp};
 use crate::records::show_record;
-use answers::Answer;
+use answers::Refusal;
 use header::firms::{MOST_FIRMS, firm_at, firm_blocked};
 use header::{BEFORE, CLOSED, HEADER_SIZE, Header, OPEN};
 use std::io;
@@ -16,19 +16,20 @@ const LONGEST_TABLE: usize = 64_164;
 
 // One that is not sound is shown as far as it goes, so that what is wrong in it can be seen.
 pub(crate) fn show_table(out: Stdout, table: &[u8]) -> io::Result<()> {
-    let tally = status(table);
-    if tally.answer.is_ok() {
-        show_tally(out, table, tally)?;
-        show_day(out, header(table))?;
-        show_firms(out, header(table))?;
-        return show_records(out, table);
+    match status(table) {
+        Ok(tally) => {
+            show_tally(out, table, tally)?;
+            show_day(out, header(table))?;
+            show_firms(out, header(table))?;
+            show_records(out, table)
+        }
+        Err(refusal) => show_refused(out, table, refusal),
     }
-    show_refused(out, table, tally.answer)
 }
 
 // By its answer, and by a line that says which of the two is no table's: the length, or the form in byte 2.
-fn show_refused(out: Stdout, table: &[u8], answer: Answer) -> io::Result<()> {
-    say_refused(out, b"Table", answer)?;
+fn show_refused(out: Stdout, table: &[u8], refusal: Refusal) -> io::Result<()> {
+    say_refused(out, b"Table", refusal)?;
     match table.get(2) {
         Some(form) if size_good(table) && HEADER_SIZE <= table.len() => {
             say_number(out, b"  bad form at 2: byte ", *form as u64)

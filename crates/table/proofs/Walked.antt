@@ -1,5 +1,6 @@
 -- What the status call says of a sound table: how many used records are live, and the sum of what is open of them. Assumes nothing.
 use Rattle.octets.proofs.Proving.{Bool, List, ◌*◌, ◌+◌, ◌-◌, ◌∙◌, ◌≡◌, ◌≤◌, ap, arith, drop, eq-eqb, le-ltb, length, length-take-le, lt-ltb, sym, take, take-append-drop, true, ℕ}
+use Rattle.std.specs.Prelude.{Ok}
 use Rattle.octets.specs.Choice.{count_below}
 use Rattle.octets.specs.Bytes.{part, number_of, whole_at}
 use Rattle.octets.proofs.Laws.{part-front}
@@ -50,6 +51,6 @@ module _ (t : List ℕ) (ok : sound t ≡ true) where
           count-zero (λ k. is_marked t (used_in t + k)) (8 * length (bit_bytes t) - used_in t)
           (λ k l. S.kept.bits (used_in t + k) ∙ rw (le-ltb (used_in t + k) (header t).used (omega (arith, S.used))))
 
-  pub status-walked : status t ≡ walked t
+  pub status-walked : status t ≡ Ok (walked t)
   unfolding status walked
   status-walked = rw (in-form, ones-live, S.kept.sum, S.used)

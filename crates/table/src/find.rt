@@ -37,7 +37,8 @@ fn first(table: &[u8], token: [u8; 14], n: usize) -> usize
     n
 }
 
-// The place of the token's record; the number behind the used records where none has it.
+// The place of the token's record; the number behind the used records where none has it, as `place_of` has it, of which the theorems of the day
+// speak, and as C is told it (`pq_find`).
 pub fn find(table: &[u8], token: [u8; 14]) -> usize
     ensures { result ≡ place_of table.now token }
 {

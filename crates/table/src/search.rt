@@ -35,7 +35,8 @@ fn among_eight(table: &[u8], wanted: Wanted, n: usize, at: usize) -> usize
     8 * at + 8
 }
 
-// Its place; the number behind the used records where there is none.
+// Its place; the number behind the used records where there is none, as `first_marked` has it, of which `by-the-bits` speaks, and as C is told it
+// (`pq_find_wanted`).
 pub fn find_wanted(table: &[u8], wanted: Wanted) -> usize
     ensures { result ≡ first_marked table.now (is_wanted wanted) }
 {

@@ -5,14 +5,13 @@ ghost use Rattle.table.specs.Status.{form_good, status};
 use crate::places::bit_bytes;
 use crate::sound::size_good;
 use crate::store::open_sum;
-use answers::{Answer, Refusal};
+use answers::Refusal;
 use bitrow::ones;
 use header::TABLE_FORM;
 use octets::byte_at;
 
 #[derive(Clone, Copy)]
 pub struct Tally {
-    pub answer: Answer,
     // how many orders are live
     pub live: usize,
     // how many shares are open of them
@@ -25,19 +24,15 @@ fn form_good(table: &[u8]) -> bool
     size_good(table) && byte_at(table, 2) == TABLE_FORM
 }
 
-pub fn status(table: &[u8]) -> Tally
+#[tactic(auto, unfolding(crate::specs::Status::status))]
+pub fn status(table: &[u8]) -> Result<Tally, Refusal>
     ensures { result ≡ status table.now }
 {
     if form_good(table) {
-        return Tally {
-            answer: Ok(()),
+        return Ok(Tally {
             live: ones(bit_bytes(table)),
             shares: open_sum(table) as usize,
-        };
+        });
     }
-    Tally {
-        answer: Err(Refusal::NotSound),
-        live: 0,
-        shares: 0,
-    }
+    Err(Refusal::NotSound)
 }

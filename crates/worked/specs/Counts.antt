@@ -1,11 +1,11 @@
 -- What a table keeps of its live orders (Ask 6): how long it is, the two numbers after entries, what a step answers where they are wrong, and what
 -- the status call says.
-use Rattle.std.specs.Prelude.{ℕ, Bool, ◌&&◌, List, [], ◌∷◌, ◌++◌, eqb, length, take, set, get_or}
+use Rattle.std.specs.Prelude.{ℕ, Bool, ◌&&◌, List, [], ◌∷◌, ◌++◌, Result, Ok, eqb, length, take, set, get_or}
 use Rattle.octets.specs.Choice.{every}
 use Rattle.octets.specs.Bytes.{all_are, same, put, digits}
-use Rattle.answers.specs.Answer.{answer_number}
+use Rattle.answers.specs.declared.Refusal.{Refusal}
 use Rattle.table.specs.Table.{table_size, bit_bytes, open_sum, sound}
-use Rattle.table.specs.Status.{status, walked}
+use Rattle.table.specs.Status.{status, walked, number_told, tally_told}
 use Rattle.table.specs.declared.status.Tally.{Tally}
 use Rattle.worked.specs.Play.{practice, host, small, play, table_after}
 use Rattle.worked.specs.Entries.{enter, good, replace, cancel, modify, execute, book_cancel, purge, all, halted_then, begun, entered, self_matched, entered_late, closing, full, ◌then◌}
@@ -29,8 +29,8 @@ fresh_odds =
 
 -- ---- the two numbers after entries
 
-unfoldable pub says : Tally → ℕ → ℕ → ℕ → Bool
-says tally answer live shares = eqb (answer_number tally.answer) answer && eqb tally.live live && eqb tally.shares shares
+unfoldable pub says : Result Tally Refusal → ℕ → ℕ → ℕ → Bool
+says told answer live shares = eqb (number_told told) answer && eqb (tally_told told).live live && eqb (tally_told told).shares shares
 
 -- each entry is done and leaves a sound table; the status call says so many live and so many shares open, and so does a walk over the records
 infix 50 after◌live◌shares◌
@@ -40,7 +40,7 @@ after es live n shares m =
     (all_are 0 (play small es).answers
     ∷ sound (table_after es)
     ∷ says (status (table_after es)) 0 n m
-    ∷ says (walked (table_after es)) 0 n m
+    ∷ says (Ok (walked (table_after es))) 0 n m
     ∷ [])
 
 -- the bytes of bits that entries leave on a host
