@@ -1,6 +1,7 @@
 -- What w, d and n do: a w's order is the first of its firm and symbol that is live and not late, and dead afterwards; a d or an n moves one bit. Assumes
 -- nothing.
 use Rattle.octets.proofs.Proving.{Bool, List, [], ◌&&◌, ◌<◌, ◌∙◌, ◌≡◌, ◌≢◌, ◌≤◌, ◌⊎◌, ap, arith, dec_lt, false, false≢true, guard, inl, inr, le-ltb, length, lt-leb, not, not-false, refl, subst, suc, sym, true, ℕ}
+use Rattle.std.specs.Prelude.{None, Option, Some}
 use Rattle.octets.specs.Choice.{count_below}
 use Rattle.octets.specs.Bits.{bit_of}
 use Rattle.octets.specs.Bytes.{same}
@@ -11,10 +12,8 @@ use Rattle.wire.specs.Letters.{dead}
 use Rattle.header.specs.Firms.{is_blank, is_listed, firm_place, blocked_with}
 use Rattle.header.proofs.Blocked.{blank-unlisted, blocked-other, blocked-own, place-listed}
 use Rattle.orders.specs.Order.{order_of, no_order, is_live, is_used, ◌is◌, killed, with_flags}
-use Rattle.orders.specs.Wanted.{meets_by, is_wanted}
+use Rattle.orders.specs.Wanted.{meets, is_wanted}
 use Rattle.orders.specs.declared.wanted.Wanted.{Wanted}
-use Rattle.orders.specs.declared.wanted.By.{By}
-use Rattle.orders.specs.declared.wanted.By.TheVariants.{Firm, Stock}
 use Rattle.orders.specs.declared.flags.Flag.TheVariants.{Late}
 use Rattle.orders.proofs.Wanting.{wanted-live}
 use Rattle.table.specs.Table.{header, used_in, record_bytes, order_at, order_from, first_such, sound}
@@ -48,15 +47,15 @@ use Rattle.laws.proofs.Steps.{Does, done-does, either}
 wanted-firm : (e : Purge) (o : Order) → is_wanted (wanted_by e) o ≡ true → o.details.kept.firm ≡ e.firm
 unfolding is_wanted wanted_by
 wanted-firm e o h =
-    let meets = meets_by (wanted_by e).by (wanted_by e) o in
-    by (wanted_by e).by (both (not (o is Late)) meets (both (is_live o) (not (o is Late) && meets) h).1).1
+    let met = meets e.firm (wanted_by e).symbol o in
+    by (wanted_by e).symbol (both (not (o is Late)) met (both (is_live o) (not (o is Late) && met) h).1).1
   where
     has : Bool
     has = same o.details.kept.firm e.firm
 
-    by : (b : By) → meets_by b (wanted_by e) o ≡ true → o.details.kept.firm ≡ e.firm
-    by Firm m = same_true o.details.kept.firm e.firm m
-    by Stock m = same_true o.details.kept.firm e.firm (both has (same o.details.kept.stock e.symbol) m).0
+    by : (symbol : Option (List ℕ)) → meets e.firm symbol o ≡ true → o.details.kept.firm ≡ e.firm
+    by None m = same_true o.details.kept.firm e.firm m
+    by (Some symbol) m = same_true o.details.kept.firm e.firm (both has (same o.details.kept.stock symbol) m).0
 
 -- and what is dead is not
 dead-unwanted : (w : Wanted) (o : Order) → o.state ≡ dead → is_wanted w o ≡ false

@@ -2,26 +2,18 @@
 ghost use Rattle.std.specs.Prelude.{◌≡◌, ◌&&◌};
 ghost use Rattle.octets.specs.Bytes.{same};
 ghost use Rattle.orders.specs.Order.{order_of};
-ghost use Rattle.orders.specs.Wanted.{meets_by, is_wanted};
+ghost use Rattle.orders.specs.Wanted.{meets, is_wanted};
 
 use crate::flags::{Flag, has_flag};
 use crate::live::lives;
 use crate::record::RECORD_SIZE;
 use octets::{byte_at, same_at};
 
-// What of an order is looked at.
-#[derive(Clone, Copy)]
-pub enum By {
-    Firm,
-    // and the stock
-    Stock,
-}
-
+// A firm's orders: those in one stock, or all.
 #[derive(Clone, Copy)]
 pub struct Wanted {
-    pub by: By,
     pub firm: [u8; 4],
-    pub symbol: [u8; 8],
+    pub symbol: Option<[u8; 8]>,
 }
 
 fn has_firm(r: &[u8; RECORD_SIZE], firm: [u8; 4]) -> bool
@@ -44,11 +36,11 @@ fn has_both(r: &[u8; RECORD_SIZE], firm: [u8; 4], symbol: [u8; 8]) -> bool
 }
 
 fn meets(r: &[u8; RECORD_SIZE], wanted: Wanted) -> bool
-    ensures { result ≡ meets_by wanted.by wanted (order_of r.now) }
+    ensures { result ≡ meets wanted.firm wanted.symbol (order_of r.now) }
 {
-    match wanted.by {
-        By::Firm => has_firm(r, wanted.firm),
-        By::Stock => has_both(r, wanted.firm, wanted.symbol),
+    match wanted.symbol {
+        Some(symbol) => has_both(r, wanted.firm, symbol),
+        None => has_firm(r, wanted.firm),
     }
 }
 

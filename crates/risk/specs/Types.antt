@@ -5,5 +5,4 @@ pub use Rattle.tape.specs.declared.entry.Blocking.{Blocking}
 pub use Rattle.header.specs.declared.Header.{Header}
 pub use Rattle.orders.specs.declared.order.Order.{Order}
 pub use Rattle.orders.specs.declared.wanted.Wanted.{Wanted}
-pub use Rattle.orders.specs.declared.wanted.By.TheVariants.{Firm, Stock}
 pub use Rattle.rules.specs.Types.{Decision}

@@ -8,7 +8,7 @@ use answers::Refusal;
 use header::Header;
 use header::firms::is_listed;
 use orders::order::{Order, is_live};
-use orders::wanted::{By, Wanted};
+use orders::wanted::Wanted;
 use rules::plan::Decision;
 use rules::replace::canceled_whole;
 use tape::entry::Purge;
@@ -26,13 +26,12 @@ pub fn wanted_by(e: Purge) -> Wanted
 {
     // the borrow checker takes an array into a literal by a variable alone
     let firm = e.firm;
-    let symbol = e.symbol;
-    let by = if names_all(symbol) {
-        By::Firm
+    let symbol = if names_all(e.symbol) {
+        None
     } else {
-        By::Stock
+        Some(e.symbol)
     };
-    Wanted { by, firm, symbol }
+    Wanted { firm, symbol }
 }
 
 // `o` is the first of them that is live and not late.

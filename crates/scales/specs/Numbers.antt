@@ -1,8 +1,7 @@
 -- What a C caller's numbers stand for.
-use Rattle.std.specs.Prelude.{ℕ, List, eqb}
+use Rattle.std.specs.Prelude.{ℕ, List, None, Some, eqb}
 use Rattle.octets.specs.Choice.{pick}
 use Rattle.orders.specs.declared.wanted.Wanted.{Wanted}
-use Rattle.orders.specs.declared.wanted.By.TheVariants.{Firm, Stock}
 use Rattle.outbox.specs.declared.marks.Marks.{Marks}
 use Rattle.stocks.specs.declared.standing.Standing.{Standing}
 use Rattle.stocks.specs.declared.standing.Standing.TheVariants.{Trading, Halted, Unlisted}
@@ -18,4 +17,4 @@ standing_number Halted = 2
 
 -- by the firm alone where the number is 0, else by the stock as well
 unfoldable pub wanted_given : List ℕ → List ℕ → ℕ → Wanted
-wanted_given firm symbol stocked = record { by = pick (eqb stocked 0) Firm Stock; firm = firm; symbol = symbol }
+wanted_given firm symbol stocked = record { firm = firm; symbol = pick (eqb stocked 0) None (Some symbol) }

@@ -13,7 +13,7 @@ ghost use Rattle.octets.specs.Choice.{pick};
 ghost use Rattle.scales.specs.Numbers.{marks, standing_number, wanted_given};
 
 use answers::number;
-use orders::wanted::{By, Wanted};
+use orders::wanted::Wanted;
 use outbox::marks::Marks;
 use outbox::put::put;
 use stocks::find::standing;
@@ -42,26 +42,10 @@ pub fn pq_find(table: &[u8], token: &[u8; 14]) -> usize
 pub fn pq_find_wanted(table: &[u8], firm: &[u8; 4], symbol: &[u8; 8], stocked: u8) -> usize
     ensures { result ≡ first_marked table.now (is_wanted (wanted_given firm.now symbol.now stocked)) }
 {
+    // the borrow checker takes an array into a literal by a variable alone
     let firm = *firm;
-    let symbol = *symbol;
-    if stocked == 0 {
-        return find_wanted(
-            table,
-            Wanted {
-                by: By::Firm,
-                firm,
-                symbol,
-            },
-        );
-    }
-    find_wanted(
-        table,
-        Wanted {
-            by: By::Stock,
-            firm,
-            symbol,
-        },
-    )
+    let symbol = if stocked == 0 { None } else { Some(*symbol) };
+    find_wanted(table, Wanted { firm, symbol })
 }
 
 // A message behind the held bytes; the caller counts them.
