@@ -1,9 +1,9 @@
 // What an entry comes to, from the table, the list of stocks and the entry alone: no function here is given the ring.
-ghost use Rattle.std.specs.Prelude.{◌≡◌, true, length};
+ghost use Rattle.std.specs.Prelude.{◌≡◌, true};
 ghost use Rattle.stocks.specs.Stocks.{standing_in};
 ghost use Rattle.table.specs.Table.{header, order_named};
 ghost use Rattle.tape.specs.Kinds.{kind_of};
-ghost use Rattle.tape.specs.Entries.{well_formed, enter_of, replace_of, stock_state_of};
+ghost use Rattle.tape.specs.Entries.{well_formed, replace_of};
 ghost use Rattle.rules.specs.Enter.{enter_rule};
 ghost use Rattle.rules.specs.Replace.{replace_rule};
 ghost use Rattle.market.specs.Halt.{halt_rule};
@@ -11,6 +11,8 @@ ghost use Rattle.host.specs.Step.{books, named_place, decide_by, decide, within_
 
 use answers::Refusal;
 use header::{END_OF_REFERENCES, Header};
+use inbound::enter_order::EnterOrder;
+use inbound::replace_order::ReplaceOrder;
 use market::cross::{cross_done, late};
 use market::day::system;
 use market::halt::halt;
@@ -27,6 +29,7 @@ use rules::replace::replace;
 use stocks::find::Listed;
 use table::find::{find, order_from};
 use table::places::records_in;
+use tape::entry::StockState;
 use tape::kinds::{Kind, kind_of};
 use tape::reading::{
     blocking_of, book_cancel_of, cancel_of, enter_of, execution_of, modify_of, priority_of,
@@ -55,8 +58,8 @@ fn decide(table: &[u8], stocks: Listed, entry: &[u8], h: Header, named: Order) -
     ensures { result ≡ decide_by (kind_of entry.now) h named (order_named table.now (replace_of entry.now).replacement) stocks.entry.bytes.now entry.now }
 {
     match kind_of(entry) {
-        Kind::Enters => decide_enter(stocks, entry, h, named),
-        Kind::Replaces => decide_replace(table, stocks, entry, h, named),
+        Kind::Enters => decide_enter(stocks, h, named, enter_of(entry)),
+        Kind::Replaces => decide_replace(table, stocks, h, named, replace_of(entry)),
         Kind::Cancels => cancel(named, cancel_of(entry)),
         Kind::Modifies => modify(h, named, modify_of(entry)),
         Kind::Executes => execution(h, named, execution_of(entry)),
@@ -66,7 +69,7 @@ fn decide(table: &[u8], stocks: Listed, entry: &[u8], h: Header, named: Order) -
         Kind::TurnsLate => late(h, named),
         Kind::EndsCross => cross_done(named),
         Kind::TellsDay => system(h, system_of(entry)),
-        Kind::SetsStock => decide_halt(stocks, entry),
+        Kind::SetsStock => decide_halt(stocks, stock_state_of(entry)),
         Kind::Purges => purge(h, named, purge_of(entry)),
         Kind::Disables => block(h, blocking_of(entry), true),
         Kind::Enables => block(h, blocking_of(entry), false),
@@ -74,30 +77,30 @@ fn decide(table: &[u8], stocks: Listed, entry: &[u8], h: Header, named: Order) -
     }
 }
 
-fn decide_enter(stocks: Listed, entry: &[u8], h: Header, named: Order) -> Decision
-    requires { length entry.now ≡ 56 }
-    ensures { result ≡ enter_rule h named (standing_in stocks.entry.bytes.now (enter_of entry.now).stock) (enter_of entry.now) }
+fn decide_enter(stocks: Listed, h: Header, named: Order, e: EnterOrder) -> Decision
+    ensures { result ≡ enter_rule h named (standing_in stocks.entry.bytes.now e.stock) e }
 {
-    let e = enter_of(entry);
     enter(h, named, stocks.standing(e.stock), e)
 }
 
 // A Replace names two tokens, the existing one and its own, and its stock is that of the order that it replaces.
-fn decide_replace(table: &[u8], stocks: Listed, entry: &[u8], h: Header, named: Order) -> Decision
-    requires { length entry.now ≡ 55 }
-    ensures { result ≡ replace_rule h named (order_named table.now (replace_of entry.now).replacement) (standing_in stocks.entry.bytes.now named.details.kept.stock) (replace_of entry.now) }
+fn decide_replace(
+    table: &[u8],
+    stocks: Listed,
+    h: Header,
+    named: Order,
+    e: ReplaceOrder,
+) -> Decision
+    ensures { result ≡ replace_rule h named (order_named table.now e.replacement) (standing_in stocks.entry.bytes.now named.details.kept.stock) e }
 {
-    let e = replace_of(entry);
     let found = order_from(table, find(table, e.replacement));
     let standing = stocks.standing(named.details.kept.stock);
     replace(h, named, found, standing, e)
 }
 
-fn decide_halt(stocks: Listed, entry: &[u8]) -> Decision
-    requires { length entry.now ≡ 18 }
-    ensures { result ≡ halt_rule (standing_in stocks.entry.bytes.now (stock_state_of entry.now).symbol) (stock_state_of entry.now) }
+fn decide_halt(stocks: Listed, e: StockState) -> Decision
+    ensures { result ≡ halt_rule (standing_in stocks.entry.bytes.now e.symbol) e }
 {
-    let e = stock_state_of(entry);
     halt(stocks.standing(e.symbol), e)
 }
 

@@ -33,7 +33,7 @@ fn show_refused(out: Stdout, s: &[u8], refusal: Refusal) -> io::Result<()> {
     }
 }
 
-// What was judged has its kind's length. The readers ask for it, so it is asked for once more.
+// What was judged has its kind's length. The readers ask for it, so it is asked for once more, here for all that show an entry.
 fn show_legal(out: Stdout, s: &[u8]) -> io::Result<()> {
     match kind_of(s) {
         Kind::Enters if s.len() == 56 => show_enter(out, s),

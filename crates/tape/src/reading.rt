@@ -1,4 +1,5 @@
-// Reading an entry that was judged into values. Each asks for the length that its kind fixes and for nothing else.
+// Reading an entry that was judged into values. Each asks for the length that its kind fixes and for nothing else: a clause, since an array of that
+// length would be made of the entry, by one more test, at every call.
 ghost use Rattle.std.specs.Prelude.{◌≡◌, ◌+◌, ◌≤◌, length};
 ghost use Rattle.tape.specs.Entries.{stamp_of, token_end, names_order, token_of, execution_of, book_cancel_of, self_match_of, priority_of, system_of, stock_state_of, purges, purge_of, blocking_of, message_in, enter_of, replace_of, cancel_of, modify_of};
 
