@@ -29,7 +29,7 @@ pub enum Refusal {
 pub type Answer = Result<(), Refusal>;
 
 impl Refusal {
-    // The paper's number of a refusal.
+    // The paper's number of a refusal. By name and not by `From`: a place is a number of it, too.
     pub fn number(self) -> u8
         ensures { result ≡ refusal_number self }
     {

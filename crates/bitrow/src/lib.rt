@@ -44,7 +44,7 @@ pub fn ones(bits: &[u8]) -> usize
     bits.iter().map(ones_of).sum()
 }
 
-// The place of the lowest bit that is set, or 8.
+// The place of the lowest bit that is set, or 8, as `trailing_zeros` has it, and `first_below` in the definitions.
 pub fn lowest(b: u8) -> usize
     ensures { result ≡ first_below 8 (bit_of b) }
 {

@@ -6,6 +6,7 @@ pub(crate) const LONGEST: usize = 128;
 // Two records, so that A and B fill the table.
 const TABLE_SIZE: usize = 225;
 
+// By value and whole, the ring as long as the longest: two boards are compared at once.
 #[derive(Clone, Copy, PartialEq)]
 pub(crate) struct Board {
     pub table: [u8; TABLE_SIZE],

@@ -25,7 +25,7 @@ pub(crate) fn old_records(old: &[u8]) -> usize
     old.len().saturating_sub(HEADER_SIZE) / RECORD_SIZE
 }
 
-// How many records are used, of those that there are.
+// How many records are used, of those that there are: an old table has no bits behind them, so it has room for others than today's.
 #[tactic(auto, unfolding(crate::specs::Old::old_used, crate::specs::Old::old_records, crate::specs::Old::old_header, header::specs::Header::header_of))]
 pub(crate) fn old_used(old: &[u8]) -> usize
     ensures { result ≡ old_used old.now }

@@ -25,7 +25,7 @@ fn length_by(pieces: Pieces, letter: u8) -> usize
     }
 }
 
-// How long the whole piece at the front is; 0 where there is none.
+// How long the whole piece at the front is; 0 where there is none, as the definition has it that `Next` goes by.
 pub(crate) fn whole(pieces: Pieces, bytes: &[u8]) -> usize
     ensures { result ≡ whole pieces bytes.now }
 {

@@ -39,7 +39,7 @@ pub const END_OF_REFERENCES: u64 = 1_000_000_000_000_000_000;
 #[derive(Clone, Copy)]
 pub struct Header {
     pub day: u8,
-    // how many firms are listed
+    // how many firms are listed, of the row below: both are bytes of the table
     pub count: u8,
     // the blocked firms, a bit each, the lowest for the first
     pub blocked: u8,

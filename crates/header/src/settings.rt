@@ -15,7 +15,8 @@ pub struct Firm {
     pub code: [u8; 4],
 }
 
-// The first `count` firms are listed, the first of them as the default; the places past the count are not looked at.
+// The first `count` firms are listed, the first of them as the default; the places past the count are not looked at. An array and a count, as they are
+// asked for by name.
 #[derive(Clone, Copy)]
 pub struct Settings {
     pub threshold: Total,

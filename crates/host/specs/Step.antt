@@ -85,7 +85,7 @@ decide b s =
 abbrev pub one_if : Bool → ℕ
 one_if b = pick b 1 0
 
--- noOrder says that nothing is stored
+-- no_order says that nothing is stored
 unfoldable pub store_if : List ℕ → ℕ → Order → List ℕ
 store_if t i o = pick (is_used o) (store_order t i o) t
 

@@ -4,7 +4,7 @@ ghost use Rattle.header.specs.Limits.{end_of_references};
 ghost use Rattle.stocks.specs.Stocks.{list_good};
 ghost use Rattle.table.specs.Limits.{most_records};
 ghost use Rattle.table.specs.Table.{header};
-ghost use Rattle.host.specs.Step.{one_if, day_after, blocked_after, store_if, set_if, header_after, committed};
+ghost use Rattle.host.specs.Step.{day_after, blocked_after, store_if, set_if, header_after, committed};
 
 use header::Header;
 use header::firms::blocked_with;
@@ -44,7 +44,8 @@ fn blocked_after(h: Header, begins: Option<Begins>) -> u8
     }
 }
 
-// The header after a done entry: its stamp, and what the plan begins, uses and takes.
+// The header after a done entry: its stamp, and what the plan begins, uses and takes. The limits are a clause: a header is read from any table, sound or
+// not, so its type can't have them.
 fn header_after(h: Header, stamp: u64, plan: Plan) -> Header
     requires { (h.used ≤ most_records) × (h.reference ≤ end_of_references) }
     ensures { result ≡ header_after h stamp plan }

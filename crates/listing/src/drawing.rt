@@ -1,4 +1,5 @@
-// A ring drawn in a line of text: 64 cells from its first byte to its last, and its marks.
+// A ring drawn in a line of text: 64 cells from its first byte to its last, and its marks. Its length and the two marks are three numbers here, as
+// `drawing` has them.
 ghost use Rattle.std.specs.Prelude.{◌≡◌, ◌<◌, ◌^◌};
 ghost use Rattle.listing.specs.Lines.{Shows, Says};
 ghost use Rattle.listing.specs.Drawing.{cell_count, first_place, is_held, is_read_place, cell, cells, drawing};

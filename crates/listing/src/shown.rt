@@ -1,4 +1,4 @@
-// A line: the first `len` of the bytes.
+// A line: the first `len` of the bytes. (By value, with its length beside it: no heap.)
 ghost use Rattle.std.specs.Prelude.{◌≤◌};
 
 // The longest line is the drawing's, with its three numbers.

@@ -48,7 +48,7 @@ pub struct Order {
 
 // What stands for a token that no record has. It is no `Option`: a record that is not used has state 0 as well, and `is_used` asks both alike in the
 // rules' definitions and the theorems of the day.
-// By hand (c): of the runs of bytes `default` says each byte, and that they are the zeros of the specs does not close.
+// By hand and not by `Default`: of the runs of bytes that says each byte, and that they are the zeros of the specs does not close.
 pub fn no_order() -> Order
     ensures { result ≡ no_order }
 {

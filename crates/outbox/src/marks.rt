@@ -6,6 +6,7 @@ pub const SHORTEST_RING: usize = 80;
 
 pub const LONGEST_RING: usize = 65_536;
 
+// The ring itself stands beside them at each call, since a C driver lends its ring and its marks apart.
 #[derive(Clone, Copy, PartialEq, Eq)]
 pub struct Marks {
     // the read place, below the ring's length

@@ -7,7 +7,8 @@ use header::firms::{FIRM_SIZE, MOST_FIRMS};
 use header::settings::{Firm, Settings};
 use wire::shares::Total;
 
-// How many codes the row has. One that is not of whole codes, or of more than eight, counts as none, which no table takes.
+// How many codes the row has. One that is not of whole codes, or of more than eight, counts as none, which no table takes: so `settings_given` has it,
+// by which `pq_fresh` answers.
 fn count_given(firms: &[u8]) -> u8
     ensures { result ≡ count_given firms.now }
 {

@@ -14,7 +14,7 @@ unfoldable pub wanted_by : Purge → Wanted
 wanted_by e = record { firm = e.firm; symbol = pick (all_are space e.symbol) None (Some e.symbol) }
 
 -- Canceled U for all open of the first of them that is live and not late, and the order is dead; with none left, ignored. It asks for no open day.
--- (`o` is that order; noOrder if there is none.)
+-- (`o` is that order; no_order if there is none.)
 unfoldable pub purge_rule : Header → Order → Purge → Decision
 purge_rule h o e =
     of_listed h e.firm

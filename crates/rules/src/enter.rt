@@ -43,7 +43,8 @@ fn bad_stock(stock: &[u8; 8], standing: Standing) -> bool
     !(is_shaped(stock) & stocks::standing::is_listed(standing))
 }
 
-// X, Z and N. Of an order as entered all shares are open.
+// X, Z and N, or the price. A fault stays the letter that the message carries, and of which the laws speak. Of an order as entered all shares are
+// open.
 fn fault_of_numbers(h: Header, e: EnterOrder) -> Result<Price, u8>
     ensures { result ≡ fault_of_numbers h e }
 {

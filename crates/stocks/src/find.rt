@@ -83,6 +83,7 @@ impl Listed<'_> {
     }
 }
 
+// The same for who holds the bytes, as the C door does.
 pub fn standing(list: &[u8], symbol: [u8; 8]) -> Standing
     requires { list_good list.now ≡ true }
     ensures { result ≡ standing_in list.now symbol }

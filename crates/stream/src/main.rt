@@ -49,7 +49,8 @@ fn asked(rt: HostRuntime, tape: &mut [u8], feed: Feed, blocked: bool) -> Feed
     next(&mut rt.stdin(), Pieces::Entries, tape, feed)
 }
 
-// What a day is played on: a table and a ring as long as the words ask for, the list of stocks, and the part of the tape that is held.
+// What a day is played on: a table and a ring as long as the words ask for, the list of stocks, and the part of the tape that is held. (`replay` has the
+// same: for the two a crate between them would be longer.)
 #[derive(Drop)]
 struct Day<'a> {
     table: &'a mut [u8],

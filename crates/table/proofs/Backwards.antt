@@ -1,6 +1,6 @@
 -- Tokens compared from the last byte backwards: it is the same test as from the first byte on, and several bytes compared at once, as numbers, are
 -- the same test as one by one. Assumes nothing.
-use Rattle.octets.proofs.Proving.{Bool, List, [], ◌∷◌, ◌&&◌, ◌*◌, ◌+◌, ◌<◌, ◌∙◌, ◌≡◌, ◌≤◌, add-one, add-suc, add-zero, and_assoc, and_comm, and-false, and-true, ap, ap₂, arith, eq-eqb, eqb, eqb-false, eqb-true, false, get_or, length, ne_eqb, not, refl, suc, sym, true, zero, ℕ}
+use Rattle.octets.proofs.Proving.{Bool, List, [], ◌∷◌, ◌&&◌, ◌*◌, ◌+◌, ◌<◌, ◌∙◌, ◌≡◌, ◌≤◌, add-one, add-suc, add-zero, and_assoc, and_comm, and-false, and-true, ap, ap₂, arith, drop, eq-eqb, eqb, eqb-false, eqb-true, false, get_or, le_refl, length, ne_eqb, not, refl, suc, sym, take-take, true, zero, ℕ}
 use Rattle.std.specs.Int.{w16, w32, w64, from_be_bytes}
 use Rattle.octets.specs.Choice.{all_below, first_of◌, ◌⇒◌⨾◌}
 use Rattle.octets.specs.Bytes.{part, same, number_of, number_from, whole_at}
@@ -73,7 +73,11 @@ module _ (xs ys : List ℕ) where
         (word 2 4 (omega arith) (omega arith)
         ∙ ap (λ (t : Bool). eqb (whole_at xs 2 4) (whole_at ys 2 4) && t) (word 0 2 (omega arith) (omega arith) ∙ and-true _))
 
--- bytes that were copied out are read, the highest first, as the number that they were in their place
+-- bytes that were copied out are the number that they were in their place
+pub copied : (s : List ℕ) (at n : ℕ) {t : List ℕ} → t ≡ part s at n → whole_at t 0 n ≡ whole_at s at n
+copied s at n e = ap (λ (l : List ℕ). whole_at l 0 n) e ∙ ap number_of (take-take n n (drop at s) (le_refl n))
+
+-- and so are they, read the highest first
 module _ (s : List ℕ) (at : ℕ) {t : List ℕ} {n : ℕ} where
   pub eight : n ≡ from_be_bytes w64 t → t ≡ part s at 8 → length t ≡ 8 → n ≡ whole_at s at 8
   unfolding number_of number_from

@@ -1,5 +1,6 @@
 // Two tokens compared, from the last byte backwards: eight bytes at once, then four, then two, and none in front of those that differ. Each number's
-// bytes are copied out first: read from the slice itself their order would be turned around, in each record anew.
+// bytes are copied out first: read from the slice itself their order would be turned around, in each record anew. (`==` begins in front, where the
+// tokens of a day are alike.)
 ghost use Rattle.std.specs.Prelude.{◌≡◌, length};
 ghost use Rattle.wire.specs.Limits.{token_size};
 ghost use Rattle.table.specs.Backwards.{same_backwards};

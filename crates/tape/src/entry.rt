@@ -40,7 +40,8 @@ pub struct StockState {
     pub state: u8,
 }
 
-// A firm's orders are to go, in one symbol or, where that is eight spaces, in all.
+// A firm's orders are to go, in one symbol or, where that is eight spaces, in all. The bytes stay as they came: that they are the request's is said of
+// them (`TellsPurge`).
 #[derive(Clone, Copy)]
 pub struct Purge {
     pub firm: [u8; 4],

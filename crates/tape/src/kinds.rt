@@ -24,7 +24,7 @@ pub enum Kind {
     Unknown,
 }
 
-// Whole lengths, kind byte and stamp included, in that order. Bytes, because a table is copied where it is indexed.
+// Whole lengths, kind byte and stamp included, in that order, a constant table as it is asked for by name. Bytes, because a table is copied where it is indexed.
 pub const LENGTHS: [u8; 16] = [
     56, 55, 27, 28, 40, 28, 36, 27, 23, 23, 10, 18, 21, 13, 13, 0,
 ];
@@ -55,7 +55,7 @@ impl From<u8> for Kind {
     }
 }
 
-// The kind whose letter a byte is.
+// The kind whose letter a byte is, by the name that the definition has.
 pub fn kind_by(letter: u8) -> Kind
     ensures { result ≡ kind_by letter }
 {

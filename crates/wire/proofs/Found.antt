@@ -1,9 +1,10 @@
--- What looking at fields one by one finds: the first bad place, or none. Assumes nothing.
+-- What looking at fields one by one finds: the first bad place, or none, and never 0, where the type stands. Assumes nothing.
 use Rattle.std.specs.Option.{option_or}
-use Rattle.octets.proofs.Proving.{List, [], ◌∙◌, ◌∷◌, ◌≡◌, ap₂, refl, ℕ}
+use Rattle.octets.proofs.Proving.{List, [], ◌∙◌, ◌∷◌, ◌≡◌, ap₂, arith, refl, true, ℕ}
 use Rattle.std.specs.Prelude.{Option, None, Some}
 use Rattle.octets.specs.Bytes.{part}
-use Rattle.wire.specs.Layout.{Field, bad_place, first_bad_place}
+use Rattle.wire.specs.Layout.{Field, bad_place, first_bad_place, unbroken}
+use Rattle.wire.proofs.BadPlaces.{first-bad, first-from}
 
 -- what one field has
 abbrev pub Finds : Field → List ℕ → Option ℕ → Type 0
@@ -37,3 +38,7 @@ pub three : (f g i : Field) (s : List ℕ) {r o p q t : Option ℕ} → r ≡ op
     → Finds i s t → r ≡ first_bad_place (f ∷ g ∷ i ∷ []) s
 unfolding first_bad_place
 three f g i s {r} {o} {p} {q} {t} e d x y z = rw (e, d) (in_turn p q t ∙ ap₂ option_or x (two g i s refl y z))
+
+-- fields in a row behind the first byte have no bad byte at 0
+pub not-at-0 : (fs : List Field) (size : ℕ) → unbroken 1 size fs ≡ true → (s : List ℕ) → first_bad_place fs s ≡ Some 0 → ⊥
+not-at-0 fs size u s e = omega (arith, first-from fs s 1 size u (first-bad fs 1 size s 0 u e))

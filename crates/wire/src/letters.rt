@@ -1,5 +1,5 @@
 // The sets of letters that the rules look at, a question each; those that are only judged are asked in `places`. A byte is compared with each
-// letter and the answers are gathered, so none of them branches.
+// letter and the answers are gathered, so none of them branches. The names stay beside `is_among`: they say what is asked, as the definitions do.
 #![tactic(auto, unfolding(octets::specs::Choice::text))]
 
 ghost use Rattle.std.specs.Prelude.{◌≡◌};

@@ -22,7 +22,7 @@ pub enum Message {
     Modified,
 }
 
-// Their lengths in that order. Bytes, because a table is copied where it is indexed.
+// Their lengths in that order, a constant table as it is asked for by name. Bytes, because a table is copied where it is indexed.
 const LENGTHS: [u8; 16] = [
     48, 47, 19, 20, 10, 66, 80, 28, 37, 40, 32, 24, 23, 23, 36, 28,
 ];
@@ -60,7 +60,7 @@ impl Message {
     }
 }
 
-// The type of what came in is its first byte: 0, which is no type, where there is none.
+// The type of what came in is its first byte: 0, which is no type, where there is none, as `framed` has it.
 pub fn first_byte(s: &[u8]) -> u8
     ensures { result ≡ get_or s.now 0 0 }
 {
@@ -70,7 +70,8 @@ pub fn first_byte(s: &[u8]) -> u8
     }
 }
 
-// The length of the message with this type, 0 where there is none. U and M are inbound or outbound, as the caller says.
+// The length of the message with this type, 0 where there is none. U and M are inbound or outbound, as the caller says. A flag and a number, as the C
+// door hands them on (`pq_message_length`).
 pub fn message_length(inbound: bool, letter: u8) -> usize
     ensures { result ≡ message_length inbound letter }
 {

@@ -80,7 +80,7 @@ pub fn bad_token(s: &[u8], at: usize) -> Option<usize>
     None
 }
 
-// A byte that is to be one of these letters. Those below stay beside it (d): at a call they name the field, where the letters would not.
+// A byte that is to be one of these letters. Those below stay beside it: at a call they name the field, where the letters would not.
 fn bad_letter<const N: usize>(s: &[u8], at: usize, letters: [u8; N]) -> Option<usize>
     requires { at < length s.now }
     ensures { (set : _) → text set ≡ letters.entry → result ≡ bad_place (one_of set) at (part s.now at 1) }

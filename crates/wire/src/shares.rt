@@ -4,11 +4,11 @@ ghost use Rattle.std.specs.Prelude.{◌≡◌, ◌+◌, ◌<◌, ◌^◌};
 ghost use Rattle.wire.specs.Shares.{◌less◌, ◌grown_by◌, ◌cut_by◌, ◌minus◌};
 
 // Liable, executed, self-matched, an intended size, the Shares of O, U and M, a threshold.
-#[derive(Clone, Copy, PartialEq, Eq, PartialOrd, Ord, Default)]
+#[derive(Clone, Copy, PartialEq, Eq, PartialOrd, Ord)]
 pub struct Total(pub u32);
 
 // A decrement, an execution, what is open, a minimum.
-#[derive(Clone, Copy, PartialEq, Eq, PartialOrd, Ord, Default)]
+#[derive(Clone, Copy, PartialEq, Eq, PartialOrd, Ord)]
 pub struct Removed(pub u32);
 
 impl Total {

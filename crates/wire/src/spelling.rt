@@ -12,7 +12,7 @@ pub fn started(letter: u8) -> [u8; 80]
     t
 }
 
-// Each kind of a field's number has its own writer (d): the names say at the call what is put.
+// Each kind of a field's number has its own writer: the names say at the call what is put.
 pub fn put_letter(t: &mut [u8; 80], at: usize, v: u8)
     requires { at < 80 }
     ensures { t.new ≡ put t.old at (digits 1 v) }

@@ -22,7 +22,7 @@ use table::sound::{MOST_RECORDS, table_size};
 pub const REFUSAL: [u8; 84] =
     *b"the words are ring N (80 to 65536), release K (1 to 65536) and records N (1 to 800)\n";
 
-// Their limits are a clause, `Allowed`, and not a part of the type: a struct with a ghost field has no `..before`.
+// Their limits are a clause, `Allowed`, and not a part of the type: `hear` takes any words.
 #[derive(Clone, Copy)]
 pub struct Words {
     pub ring: usize,

@@ -1,4 +1,4 @@
-// A number as it is typed: decimal digits and nothing else.
+// A number as it is typed: decimal digits and nothing else. (`parse` would take a sign in front, too.)
 ghost use Rattle.std.specs.Prelude.{◌≡◌, ◌≤◌, IfSome};
 ghost use Rattle.outbox.specs.Limits.{longest_ring};
 ghost use Rattle.words.specs.Words.{with_digit, number_in};
