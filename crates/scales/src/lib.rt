@@ -39,6 +39,7 @@ pub fn pq_find(table: &[u8], token: &[u8; 14]) -> usize
 
 // The place of the first live order of the firm that isn't late, by the bits; of those in this stock alone, where `stocked` is not 0. The number of
 // used records where there is none.
+#[tactic(auto, unfolding(crate::specs::Numbers::wanted_given))]
 pub fn pq_find_wanted(table: &[u8], firm: &[u8; 4], symbol: &[u8; 8], stocked: u8) -> usize
     ensures { result ≡ first_marked table.now (is_wanted (wanted_given firm.now symbol.now stocked)) }
 {
