@@ -1,7 +1,7 @@
 // The table of two records in its old form, without bits, and what the converter makes of it.
 use crate::run::Last;
 use crate::text::{part, put};
-use answers::{Answer, Refusal, number, place};
+use answers::{Answer, Refusal};
 use convert::convert;
 
 // How long it is: the bits stood behind it.
@@ -27,8 +27,7 @@ fn rebuilt(old: &[u8], second: &mut [u8], n: usize) -> Answer {
 // With another answer than 0 the second buffer should be what it was.
 fn outcome(answer: Answer, table: &[u8], second: &[u8]) -> Last {
     Last {
-        answer: number(answer),
-        place: place(answer),
+        answer,
         before: 0,
         changed: second != [255; SECOND].as_slice(),
         intact: part(table, 64, 144) == part(second, 64, 144),

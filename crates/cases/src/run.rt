@@ -1,13 +1,13 @@
 // What a script has set so far, and what came of the last entry.
 use crate::board::LONGEST;
+use answers::Answer;
 use outbox::marks::Marks;
 
-// The answer and its place, how many bytes were held before, whether a byte of table, ring or list or a mark has changed, and whether the first record's 80 bytes
+// The answer, how many bytes were held before, whether a byte of table, ring or list or a mark has changed, and whether the first record's 80 bytes
 // are what they were.
 #[derive(Clone, Copy)]
 pub struct Last {
-    pub answer: u8,
-    pub place: usize,
+    pub answer: Answer,
     pub before: usize,
     pub changed: bool,
     pub intact: bool,
@@ -62,8 +62,7 @@ pub(crate) fn begun() -> Run {
         byte: 0,
         asks: false,
         last: Last {
-            answer: 0,
-            place: 0,
+            answer: Ok(()),
             before: 0,
             changed: false,
             intact: false,

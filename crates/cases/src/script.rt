@@ -24,7 +24,7 @@ use crate::house::open;
 use crate::older::{converted, take_back};
 use crate::run::{Last, Run, begun, set};
 use crate::text::{part, put};
-use answers::{Answer, number, place};
+use answers::Answer;
 use host::step::step;
 use outbox::marks::Marks;
 use outbox::read::read;
@@ -49,8 +49,7 @@ fn emptied(board: &Board, run: Run) -> Run {
 // What came of an entry, from the board and the marks before and after it.
 fn last(answer: Answer, was: Marks, marks: Marks, before: Board, after: Board) -> Last {
     Last {
-        answer: number(answer),
-        place: place(answer),
+        answer,
         before: was.held,
         changed: before != after || marks != was,
         intact: part(&before.table, 64, 144) == part(&after.table, 64, 144),

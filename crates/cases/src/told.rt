@@ -3,6 +3,7 @@ use crate::asked::asked;
 use crate::board::{Board, LONGEST};
 use crate::run::{Last, Run};
 use crate::text::{Text, letter, number, part, put};
+use answers::Refusal;
 use outbox::marks::Marks;
 use outbox::read::read;
 use outbox::release::release;
@@ -11,12 +12,13 @@ use std::io::Write;
 use wire::messages::message_length;
 
 // A refusal changes nothing, so there is no more to say of it.
-fn refused(last: Last, out: &mut Text) -> io::Result<()> {
-    write!(out, "answer {}", last.answer)?;
-    if last.place != 0 {
-        write!(out, " at {}", last.place)?;
+fn refused(refusal: Refusal, changed: bool, out: &mut Text) -> io::Result<()> {
+    write!(out, "answer {}", refusal.number())?;
+    let at = refusal.place();
+    if at != 0 {
+        write!(out, " at {at}")?;
     }
-    if last.changed {
+    if changed {
         return write!(out, ", but something changed");
     }
     write!(out, ", nothing changed")
@@ -135,8 +137,8 @@ fn beside(board: &Board, out: &mut Text) -> io::Result<()> {
 }
 
 pub(crate) fn told(board: &Board, run: Run, out: &mut Text) -> io::Result<()> {
-    if run.last.answer != 0 {
-        return refused(run.last, out);
+    if let Err(refusal) = run.last.answer {
+        return refused(refusal, run.last.changed, out);
     }
     let table = &board.table;
     let before = run.last.before;

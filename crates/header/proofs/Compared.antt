@@ -1,14 +1,7 @@
--- What `==` finds of two firms: whether their bytes are the same, and so whether all are spaces. Assumes nothing.
+-- What `==` finds of a firm and spaces: whether all its bytes are. Assumes nothing.
 use Rattle.octets.proofs.Proving.{Bool, List, [], ◌&&◌, ◌∷◌, ◌≡◌, ap, arith, eqb, length, refl, replicate, suc, zero, ℕ}
 use Rattle.std.specs.Cmp.Lexicographic.{pointwise}
-use Rattle.octets.specs.Bytes.{same, all_are}
-
-pub compared : (xs ys : List ℕ) → pointwise eqb xs ys ≡ same xs ys
-unfolding same
-compared [] [] = refl
-compared [] (y ∷ ys) = refl
-compared (x ∷ xs) [] = refl
-compared (x ∷ xs) (y ∷ ys) = ap (λ (b : Bool). eqb x y && b) (compared xs ys)
+use Rattle.octets.specs.Bytes.{all_are}
 
 pub compared-all : (x : ℕ) (xs : List ℕ) (n : ℕ) → length xs ≡ n → pointwise eqb xs (replicate n x) ≡ all_are x xs
 unfolding all_are

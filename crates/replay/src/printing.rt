@@ -31,14 +31,15 @@ pub(crate) fn taken_from(size: usize, marks: Marks, takes: usize) -> Marks {
     after
 }
 
-// The reader goes on alone until nothing is held, and the ring is drawn each time that it took, from the last offer on.
-pub(crate) fn drain(out: Stdout, size: usize, marks: Marks, takes: usize) -> io::Result<()>
+// The reader goes on alone until nothing is held, and the ring is drawn each time that it took, from the last offer on. Whether the output took it is
+// told of the line behind it, the last.
+pub(crate) fn drain(out: Stdout, size: usize, marks: Marks, takes: usize)
     requires { 1 ≤ takes }
 {
     let mut now = marks;
     for _ in 0..marks.held.div_ceil(takes) {
-        draw(out, size, now)?;
+        let _ = draw(out, size, now);
         now = taken_from(size, now, takes);
     }
-    draw(out, size, now)
+    let _ = draw(out, size, now);
 }

@@ -27,7 +27,7 @@ use table::sound::sound;
 pub fn pq_sound(table: &[u8]) -> u8
     ensures { result ≡ pick (sound table.now) 1 0 }
 {
-    if sound(table) { 1 } else { 0 }
+    u8::from(sound(table))
 }
 
 // The place of a token's first used record; the number of used records where none has it.
@@ -60,7 +60,7 @@ pub fn pq_put(ring: &mut [u8], at: usize, held: usize, message: &[u8]) -> u8
 pub fn pq_stocks_good(stocks: &[u8]) -> u8
     ensures { result ≡ pick (list_good stocks.now) 1 0 }
 {
-    if list_good(stocks) { 1 } else { 0 }
+    u8::from(list_good(stocks))
 }
 
 // How a symbol of eight bytes stands in a list that was judged: 0 where it is not listed, 1 where it trades, 2 where it is halted.

@@ -25,11 +25,11 @@ pub(crate) fn show_entry(out: Stdout, s: &[u8]) -> io::Result<()> {
 }
 
 fn show_refused(out: Stdout, s: &[u8], refusal: Refusal) -> io::Result<()> {
-    say_refused(out, b"Entry", refusal)?;
+    let shown = say_refused(out, b"Entry", refusal);
     let at = refusal.place();
     match s.get(at) {
         Some(b) if at != 0 => point_at(out, kind_of(s), at, *b),
-        _ => Ok(()),
+        _ => shown,
     }
 }
 
@@ -44,8 +44,8 @@ fn show_legal(out: Stdout, s: &[u8]) -> io::Result<()> {
         Kind::BookCancels if s.len() == 28 => show_book_cancel(out, s),
         Kind::SelfMatches if s.len() == 36 => show_self_match(out, s),
         Kind::Prioritises if s.len() == 27 => show_priority(out, s),
-        Kind::TurnsLate if s.len() == 23 => show_late(out, s),
-        Kind::EndsCross if s.len() == 23 => show_cross_done(out, s),
+        Kind::TurnsLate if s.len() == 23 => show_named(out, b"Late Begins ", s),
+        Kind::EndsCross if s.len() == 23 => show_named(out, b"Cross Done ", s),
         Kind::TellsDay if s.len() == 10 => show_system(out, s),
         Kind::SetsStock if s.len() == 18 => show_stock_state(out, s),
         Kind::Purges if s.len() == 21 => show_purge(out, s),
@@ -151,17 +151,11 @@ fn show_priority(out: Stdout, s: &[u8]) -> io::Result<()>
     end_line(out)
 }
 
-fn show_late(out: Stdout, s: &[u8]) -> io::Result<()>
+// What says no more than which order it is about.
+fn show_named(out: Stdout, name: &[u8], s: &[u8]) -> io::Result<()>
     requires { length s.now ≡ 23 }
 {
-    say_head(out, b"Late Begins ", stamp_of(s), token_of(s));
-    end_line(out)
-}
-
-fn show_cross_done(out: Stdout, s: &[u8]) -> io::Result<()>
-    requires { length s.now ≡ 23 }
-{
-    say_head(out, b"Cross Done ", stamp_of(s), token_of(s));
+    say_head(out, name, stamp_of(s), token_of(s));
     end_line(out)
 }
 

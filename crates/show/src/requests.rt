@@ -55,10 +55,10 @@ fn show_order_entry<const LETTER: u8>(
 // By its answer, and with a bad field by a line that names it. The place is the field's first byte, which need not be the bad one, so it stands
 // there without its byte.
 fn show_refused(out: Stdout, name: &[u8], refusal: Refusal) -> io::Result<()> {
-    say_refused(out, name, refusal)?;
+    let shown = say_refused(out, name, refusal);
     let at = refusal.place();
     if at == 0 {
-        return Ok(());
+        return shown;
     }
     if at == APPENDAGE {
         say_number(out, b"  bad appendage at ", at as u64);

@@ -204,14 +204,12 @@ impl Shown for Modified {
 
 // What Accepted and Replaced state of an order, in the order of their bytes.
 fn say_order(out: Stdout, order: Stated) {
-    let stock = order.stock;
-    let firm = order.firm;
     say_letter(out, b" side ", order.side);
     say_number(out, b" shares ", order.shares.0 as u64);
-    say_stock(out, stock);
+    say_stock(out, order.stock);
     say_price(out, order.price);
     say_number(out, b" time in force ", order.time as u64);
-    say_firm(out, firm);
+    say_firm(out, order.firm);
     say_letter(out, b" display ", order.display);
     say_number(out, b" reference ", order.reference);
     say_letter(out, b" capacity ", order.capacity);

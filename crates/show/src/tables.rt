@@ -29,7 +29,7 @@ pub(crate) fn show_table(out: Stdout, table: &[u8]) -> io::Result<()> {
 
 // By its answer, and by a line that says which of the two is no table's: the length, or the form in byte 2.
 fn show_refused(out: Stdout, table: &[u8], refusal: Refusal) -> io::Result<()> {
-    say_refused(out, b"Table", refusal)?;
+    let _ = say_refused(out, b"Table", refusal);
     match table.get(2) {
         Some(form) if size_good(table) && HEADER_SIZE <= table.len() => {
             say_number(out, b"  bad form at 2: byte ", *form as u64)

@@ -17,14 +17,6 @@ same-tells xs ys false (equal, told) = by (same xs ys) refl
     by false e = refl
     by true e = told (same_true xs ys e)
 
--- the comparison of two texts, byte by byte, is the computed one
-pub compared : (xs ys : List ℕ) → pointwise eqb xs ys ≡ same xs ys
-unfolding same
-compared [] [] = refl
-compared [] (y ∷ ys) = refl
-compared (x ∷ xs) [] = refl
-compared (x ∷ xs) (y ∷ ys) = ap (λ (b : Bool). eqb x y && b) (compared xs ys)
-
 pub usual-allowed : Allowed usual
 usual-allowed = record { ring-low = lit≤ tt; ring-high = lit≤ tt; release-low = lit≤ tt; records-low = lit≤ tt; records-high = lit≤ tt }
 

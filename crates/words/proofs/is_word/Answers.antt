@@ -1,6 +1,6 @@
 -- The comparison goes byte by byte, as the definition does. Assumes nothing.
 use Rattle.octets.proofs.Proving.{◌∙◌}
-use Rattle.words.proofs.Laws.{compared}
+use Rattle.octets.proofs.Below.{compared}
 use Rattle.words.proofs.is_word.Goals as goal
 
 pub returns : goal.returns

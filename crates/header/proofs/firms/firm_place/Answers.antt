@@ -3,7 +3,7 @@ use Rattle.octets.proofs.Proving.{arith}
 use Rattle.octets.specs.Bytes.{same}
 use Rattle.octets.proofs.First.{ahead-start, ahead-found, ahead-next, ahead-end}
 use Rattle.header.specs.Firms.{firm_at, firm_place}
-use Rattle.header.proofs.Compared.{compared}
+use Rattle.octets.proofs.Below.{compared}
 use Rattle.header.proofs.firms.firm_place.Goals as goal
 
 pub loop-k-init : goal.loop-k-init
