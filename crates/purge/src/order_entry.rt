@@ -1,5 +1,7 @@
 // Disable and Enable Order Entry Request (D and E, 15 bytes): a firm's new orders are kept out, or let in again. The two differ in their type
 // alone, so they are one struct over it.
+ghost use Rattle.std.specs.Prelude.{◌≡◌};
+ghost use Rattle.wire.specs.Messages.{read_answer};
 ghost use Rattle.purge.specs.Purge.{order_entry, order_entry_of};
 
 use answers::{Answer, Refusal};
@@ -22,6 +24,16 @@ pub type Disable = OrderEntry<DISABLE>;
 
 pub type Enable = OrderEntry<ENABLE>;
 
+// Length and type, then a blank account, by a letter that a caller may have from outside.
+pub fn judge_order_entry(s: &[u8], letter: u8) -> Answer
+    ensures { result ≡ read_answer (order_entry letter) s.now }
+{
+    if is_framed(s, 15, letter) {
+        return unless_bad(bad_blank(s, 9, 6));
+    }
+    Err(Refusal::Malformed)
+}
+
 impl<const LETTER: u8> Body for OrderEntry<LETTER> {
     ghost layout = { order_entry LETTER };
 
@@ -31,12 +43,8 @@ impl<const LETTER: u8> Body for OrderEntry<LETTER> {
         15
     }
 
-    // Length and type, then a blank account.
     fn judged(s: &[u8]) -> Answer {
-        if is_framed(s, 15, LETTER) {
-            return unless_bad(bad_blank(s, 9, 6));
-        }
-        Err(Refusal::Malformed)
+        judge_order_entry(s, LETTER)
     }
 
     fn parse(s: &[u8]) -> Self {

@@ -9,6 +9,9 @@ judge-unique = (λ κs a. settled) also (λ κs a. settled) also (λ κs a. sett
 pub send-unique : SettledBoth wire.body.send.Reads.Post
 send-unique κs a = settled-both
 
+pub by-number-unique : Settled wire.by_number.size.Reads.Post and Settled wire.by_number.judge.Reads.Post and SettledBoth wire.by_number.send.Reads.Post
+by-number-unique = (λ κs a. settled) also (λ κs a. settled) also (λ κs a. settled-both)
+
 pub messages-unique : Settled wire.messages.Message.size.Reads.Post and Settled wire.messages.first_byte.Reads.Post
     and Settled wire.messages.message_length.Reads.Post
 messages-unique = (λ κs a. settled) also (λ κs a. settled) also (λ κs a. settled)

@@ -2,6 +2,7 @@
 #![tactic(auto)]
 
 pub mod body;
+pub mod by_number;
 pub mod judge;
 pub mod letters;
 pub mod messages;

@@ -4,14 +4,14 @@ use Rattle.wire.specs.Layout.{blank_at, bad_place, first_bad_place}
 use Rattle.wire.proofs.Found.{one}
 use Rattle.wire.proofs.Verdicts.{framed-judged, unframed}
 use Rattle.purge.proofs.Codec.{order_entry}
-use Rattle.purge.proofs.order_entry.OrderEntryBody.judged.Goals as goal
+use Rattle.purge.proofs.order_entry.judge_order_entry.Goals as goal
 
 pub returns-then-is_framed : goal.returns-then-is_framed
 unfolding first_bad_place bad_place
-returns-then-is_framed g c =
+returns-then-is_framed c =
     let s = c.args.s.now in
-    framed-judged (order_entry g.row.LETTER) s (sym c.is_framed.ensures ∙ c.if-is_framed.true)
+    framed-judged (order_entry c.args.letter) s (sym c.is_framed.ensures ∙ c.if-is_framed.true)
     (one (blank_at 9 6) s c.bad_blank.ensures) c.unless_bad.ensures
 
 pub returns : goal.returns
-returns g c = unframed (order_entry g.row.LETTER) c.args.s.now (sym c.is_framed.ensures ∙ c.if-is_framed.false)
+returns c = unframed (order_entry c.args.letter) c.args.s.now (sym c.is_framed.ensures ∙ c.if-is_framed.false)
