@@ -2,12 +2,15 @@
 use Rattle.octets.proofs.Proving.{Bool, List, [], ◌++◌, ◌+◌, ◌-◌, ◌<◌, ◌∙◌, ◌≡◌, ◌≤◌, ap, arith, drop, eqb, false, le-leb, leb, leb-false, leb-true, length, length-append, length-drop, length-take, length-take-le, min, refl, sub-zero, subst, sym, take, take_all, take-append_seam, take-take, true, ℕ}
 use Rattle.octets.specs.Choice.{pick}
 use Rattle.octets.specs.Bytes.{part}
-use Rattle.feed.specs.Feed.{Feed, Held, Pieces, unread, Begins, behind, held_by, whole, handed_out, Next}
+use Rattle.feed.specs.Feed.{Feed, Held, Pieces, unread, Begins, Refills, behind, held_by, whole, handed_out, Next}
 
 pub begins-on : (a b c : List ℕ) → Begins a b → Begins b c → Begins a c
 begins-on a b c p q =
     let short : length a ≤ length b = omega (arith, sym (ap length p) ∙ length-take (length a) b) in
     sym (take-take (length a) (length b) c short) ∙ ap (take (length a)) q ∙ p
+
+pub begins-self : (a : List ℕ) → Begins a a
+begins-self a = take_all (length a) a (omega arith)
 
 -- no more is held than there is
 pub unread-within : (buffer : List ℕ) (h : Held) → length (unread buffer h) ≤ length buffer
@@ -20,11 +23,6 @@ unread-within buffer h = by (leb h.end (length buffer)) refl (leb h.at h.end) re
     by true e false g = omega arith
     by false e d g = omega arith
 
--- a read leaves what is held and brings so many bytes behind it
-pub record Refills (before : List ℕ) (h : Held) (after : List ℕ) (g : Held) (more : ℕ) : Type 0 where
-  pub kept : Begins (unread before h) (unread after g)
-  pub grown : length (unread after g) ≡ length (unread before h) + more
-
 -- what was kept in front is held again, with what the read brought behind it
 pub refills : (before kept after : List ℕ) (h g : Held) (n more : ℕ) → take n kept ≡ unread before h → n ≤ length kept
     → (unread after g ≡ take (n + more) after) × ((take n after ≡ take n kept) × (n + more ≤ length after))
@@ -34,6 +32,7 @@ refills before kept after h g n more e k (u, (t, l)) =
     record {
       kept = rw (long, u) (take-take n (n + more) after (omega arith) ∙ t ∙ e);
       grown = rw (long, u) (length-take-le (n + more) after l);
+      front = rw long u;
     }
 
 -- the bytes behind the first n are exchanged by a read: the first n stay, and with what it brought they are held
@@ -56,13 +55,9 @@ read-in before kept space rest h n more e k m =
     refills before kept (take n kept ++ (space ++ rest)) h (record { at = 0; end = n + more }) n more e k (filled kept space rest n more k m)
 
 -- a read that brings something leaves less room
-pub less-room : (before kept space rest : List ℕ) (h : Held) (n more room : ℕ) → take n kept ≡ unread before h → n ≤ length kept
-    → more ≤ length space → n + more ≤ room → (more ≡ 0 → ⊥)
-    → room - length (unread (take n kept ++ (space ++ rest)) (record { at = 0; end = n + more })) < room - length (unread before h)
-less-room before kept space rest h n more room e k m fits some =
-    let s = read-in before kept space rest h n more e k m in
-    let long : length (unread before h) ≡ n = sym (ap length e) ∙ length-take-le n kept k in
-    omega (arith, s.grown, long, some)
+pub less-room : (before after : List ℕ) (h g : Held) (more room : ℕ) → Refills before h after g more → length after ≤ room → (more ≡ 0 → ⊥)
+    → room - length (unread after g) < room - length (unread before h)
+less-room before after h g more room s fits some = omega (arith, s.grown, unread-within after g, fits, some)
 
 -- what is handed out leaves the marks as they are, and one piece fewer
 pub next-piece : (p : Pieces) (f : Feed) (before after : List ℕ) (h : Held) (r : Feed) → Begins (behind before f) (unread after h)

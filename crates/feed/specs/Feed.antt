@@ -24,6 +24,12 @@ past h n = pick (leb h.at h.end) (pick (leb n (h.end - h.at)) (record { at = h.a
 abbrev pub Begins : List ℕ → List ℕ → Type 0
 Begins before after = take (length before) after ≡ before
 
+-- a read leaves what is held and brings so many bytes behind it, and all that is held then stands at the front
+pub record Refills (before : List ℕ) (h : Held) (after : List ℕ) (g : Held) (more : ℕ) : Type 0 where
+  pub kept : Begins (unread before h) (unread after g)
+  pub grown : length (unread after g) ≡ length (unread before h) + more
+  pub front : unread after g ≡ take (length (unread before h) + more) after
+
 -- ---- pieces
 
 -- how long the piece is that begins with a letter; 0 where none does

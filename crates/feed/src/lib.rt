@@ -82,8 +82,8 @@ fn handed_out(pieces: Pieces, buffer: &[u8], held: Held, left: u64) -> Feed
     }
 }
 
-// The piece behind the one that was handed out last. An empty one says that the input has ended: `Next` promises it of every input. The buffer stays
-// the caller's, here and below, and what it held before is named in the promise.
+// The piece behind the one that was handed out last. An empty one says that the input has ended, as far as a contract can speak of an input. The
+// buffer stays the caller's, here and below, and what it held before is named in the promise.
 pub fn next<R: Read>(input: &mut R, pieces: Pieces, buffer: &mut [u8], feed: Feed) -> Feed
     ensures { Next pieces feed buffer.old buffer.new result }
 {

@@ -1,6 +1,6 @@
 // Taking more of the input: the held bytes go to the buffer's front, and what has come in goes behind them.
 ghost use Rattle.std.specs.Prelude.{◌≡◌, ◌≤◌, length, take};
-ghost use Rattle.feed.specs.Feed.{unread, Begins};
+ghost use Rattle.feed.specs.Feed.{unread, Begins, Refills};
 
 use crate::held::{Held, unread};
 use crate::pieces::{Pieces, waits};
@@ -17,17 +17,26 @@ pub(crate) fn ready<R: Read>(
     ensures { Begins (unread buffer.old held) (unread buffer.new result) }
 {
     while waits(pieces, unread(buffer, held)) {
-        let n = keep(buffer, held);
-        let more = read_some(input, &mut buffer[n..]);
-        held = Held {
-            at: 0,
-            end: n + more,
-        };
+        let (now, more) = refill(input, buffer, held);
+        held = now;
         if more == 0 {
             break;
         }
     }
     held
+}
+
+// What is held after one read more, and how many bytes it brought: these and no others are held behind what was.
+fn refill<R: Read>(input: &mut R, buffer: &mut [u8], held: Held) -> (Held, usize)
+    ensures { Refills buffer.old held buffer.new result.0 result.1 }
+{
+    let n = keep(buffer, held);
+    let more = read_some(input, &mut buffer[n..]);
+    let now = Held {
+        at: 0,
+        end: n + more,
+    };
+    (now, more)
 }
 
 // The held bytes go to the front; the answer is how many there are.
