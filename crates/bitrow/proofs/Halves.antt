@@ -1,5 +1,5 @@
 -- A range in two, the numbers below m and the n behind them: a test that holds of all holds of both, and the counts of both add up. Assumes nothing.
-use Rattle.octets.proofs.Proving.{Bool, ◌&&◌, ◌+◌, ◌∙◌, ◌≡◌, add-suc, add-zero, and_assoc, and-true, ap, arith, suc, sym, zero, ℕ}
+use Rattle.octets.proofs.Proving.{Bool, ◌&&◌, ◌+◌, ◌∙◌, ◌≡◌, ◌≤◌, add-suc, add-zero, and_assoc, and-true, ap, arith, false, lit≤, suc, sym, true, zero, ℕ}
 use Rattle.octets.specs.Choice.{pick, all_below, count_below}
 
 pub all_split : (p : ℕ → Bool) (m n : ℕ) → all_below (m + n) p ≡ (all_below m p && all_below n (λ k. p (m + k)))
@@ -21,3 +21,13 @@ pub count-first : (p : ℕ → Bool) (n : ℕ) → count_below (suc n) p ≡ pic
 unfolding count_below
 count-first p zero = omega arith
 count-first p (suc n) = omega (arith, count-first p n)
+
+-- no more pass than there are
+pub count_most : (p : ℕ → Bool) (n : ℕ) → count_below n p ≤ n
+unfolding count_below
+count_most p zero = omega arith
+count_most p (suc n) = omega (arith, count_most p n, at_most (p n))
+  where
+    at_most : (b : Bool) → pick b 1 0 ≤ 1
+    at_most true = lit≤ tt
+    at_most false = lit≤ tt

@@ -58,6 +58,11 @@ pub known : (ls : List Layout) (s out : List ℕ) {code : ℕ} {l : Layout} → 
 unfolding answer_among echoed_among
 known ls s out {code} first is w = let f = ap (layout_for ls) first ∙ computed ls code ∙ is in rw f w
 
+-- where there is no byte
+pub nothing : (ls : List Layout) (s out : List ℕ) → length s ≡ 0 → layout_with ls 0 ≡ None → (Malformed ≡ answer_among ls s out) × (out ≡ echoed_among ls s out)
+unfolding answer_among echoed_among
+nothing ls s out e is = let f = ap (layout_for ls) (List·get_d-eq-default s 0 {n = 0} (omega arith)) ∙ computed ls 0 ∙ is in rw f (refl, refl)
+
 -- a type that is none of them, as a match leaves it
 abbrev Unlike : Type 0 → List Layout → ℕ → Type 0
 Unlike others [] code = others
