@@ -36,7 +36,9 @@ fn tried(to: Stdout, row: &str) -> bool {
     let should = row.get(SHOULD_FROM..).unwrap_or("");
     let out = done(script);
     let did = from_utf8(part(out.get_ref(), 0, out.position() as usize)).unwrap_or("");
-    let _ = println!(to; "{words}: should {should}; did {did}");
+    for piece in [words, ": should ", should, "; did ", did, "\n"] {
+        let _ = to.write_all(piece.as_bytes());
+    }
     should == did
 }
 

@@ -45,8 +45,8 @@ struct Tally {
     blocked: bool,
 }
 
-// The line of an offer and, where that is asked for, the ring under it; then the reader takes from the ring. The message stands behind what was held
-// before.
+// The offer is counted, and the reader takes from the ring; then comes its line and, where that is asked for, the ring as the offer left it. The message
+// stands behind what was held before.
 fn show_entry(
     out: Stdout,
     ring: &[u8],
@@ -54,10 +54,17 @@ fn show_entry(
     answer: Answer,
     after: Marks,
     reader: Reader,
-    tally: Tally,
-) -> io::Result<Tally> {
+    tally: &mut Tally,
+) -> io::Result<()> {
     let before = tally.marks;
     let entries = tally.entries.wrapping_add(!tally.blocked as u64);
+    *tally = Tally {
+        marks: taken_from(ring.len(), after, reader.takes),
+        entries,
+        taken: tally.taken.wrapping_add(answer.is_ok() as u64),
+        sent: tally.sent.wrapping_add(grown(before, after)),
+        blocked: answer == Err(Refusal::Blocked),
+    };
     let mut behind = after;
     let _ = release(ring.len(), &mut behind, before.held);
     let sent = type_shown(read(ring, behind));
@@ -65,13 +72,7 @@ fn show_entry(
     if reader.draws {
         draw(out, ring.len(), after)?;
     }
-    Ok(Tally {
-        marks: taken_from(ring.len(), after, reader.takes),
-        entries,
-        taken: tally.taken.wrapping_add(answer.is_ok() as u64),
-        sent: tally.sent.wrapping_add(grown(before, after)),
-        blocked: answer == Err(Refusal::Blocked),
-    })
+    Ok(())
 }
 
 // How many bytes a step put behind the held ones.
@@ -101,16 +102,10 @@ struct Day<'a> {
 }
 
 impl Day<'_> {
-    // An offer for each entry, and one more for each time that it was blocked. What is no whole entry is the last, and the host answers 2 to it.
-    fn play(&mut self, rt: HostRuntime, reader: Reader) -> io::Result<Tally> {
+    // An offer for each entry, and one more for each time that it was blocked. What is no whole entry is the last, and the host answers 2 to it. Where
+    // a line is not taken, the tally has its offer all the same.
+    fn play(&mut self, rt: HostRuntime, reader: Reader, tally: &mut Tally) -> io::Result<()> {
         let mut feed = begin();
-        let mut tally = Tally {
-            marks: Marks { at: 0, held: 0 },
-            entries: 0,
-            taken: 0,
-            sent: 0,
-            blocked: false,
-        };
         while 0 < feed.left {
             feed = asked(rt, &mut self.tape, feed, tally.blocked);
             let entry = piece(&self.tape, feed);
@@ -118,14 +113,15 @@ impl Day<'_> {
                 let kind = *kind;
                 let mut marks = tally.marks;
                 let answer = step(self.table, self.ring, &mut marks, &mut self.stocks, entry);
-                tally = show_entry(rt.stdout(), self.ring, kind, answer, marks, reader, tally)?;
+                show_entry(rt.stdout(), self.ring, kind, answer, marks, reader, tally)?;
             }
         }
-        Ok(tally)
+        Ok(())
     }
 }
 
-// A fresh day, the tape, and what came of it: at the end the reader empties the ring, and the counts are told.
+// A fresh day, the tape, and what came of it: at the end the reader empties the ring, and the counts are told. That line is tried behind one that was not
+// taken, too, since what has room for less may have room for it.
 fn play_with(rt: HostRuntime, words: Words, draws: bool) -> io::Result<()>
     requires { Allowed words }
 {
@@ -141,11 +137,18 @@ fn play_with(rt: HostRuntime, words: Words, draws: bool) -> io::Result<()>
     let takes = words.release;
     let _ = desk::open(day.table);
     let _ = out.write_all(&FIRST_LINE);
-    let tally = day.play(rt, Reader { takes, draws })?;
-    if draws {
+    let mut tally = Tally {
+        marks: Marks { at: 0, held: 0 },
+        entries: 0,
+        taken: 0,
+        sent: 0,
+        blocked: false,
+    };
+    let played = day.play(rt, Reader { takes, draws }, &mut tally);
+    if draws && played.is_ok() {
         drain(out, words.ring, tally.marks, takes);
     }
-    print(out, last_line(tally.taken, tally.sent))
+    print(out, last_line(tally.taken, tally.sent)).and(played)
 }
 
 fn main(rt: HostRuntime) {
