@@ -19,7 +19,7 @@ pub struct Marks {
 pub fn ring_good(n: usize, marks: Marks) -> bool
     ensures { result ≡ ring_good n marks }
 {
-    (SHORTEST_RING <= n) & (n <= LONGEST_RING) & (marks.at < n) & (marks.held <= n)
+    SHORTEST_RING <= n && n <= LONGEST_RING && marks.at < n && marks.held <= n
 }
 
 // A place of a ring of n bytes, from one that may have passed the end. It never passes the end twice, so no division is needed.

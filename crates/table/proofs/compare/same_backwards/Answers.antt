@@ -1,6 +1,6 @@
 -- The first number from the end that differs decides, and where the first two are the same the third does. Assumes nothing.
 use Rattle.octets.proofs.Proving.{arith, eq-eqb, ne_eqb, rules}
-use Rattle.table.proofs.Backwards.{in_words, eight, four, two}
+use Rattle.table.proofs.Backwards.{in_words, eight, four}
 use Rattle.table.proofs.compare.same_backwards.Goals as goal
 
 pub returns-then-from_be_bytes-2 : goal.returns-then-from_be_bytes-2
@@ -15,8 +15,8 @@ returns-then-from_be_bytes-2 c =
       ← four xs 2 c.from_be_bytes-then-from_be_bytes.ensures c.bytes_at-then-from_be_bytes.ensures (search rules),
       ← four ys 2 c.from_be_bytes-then-from_be_bytes-2.ensures c.bytes_at-then-from_be_bytes-2.ensures (search rules),
       eq-eqb _ _ c.if-from_be_bytes-2.true,
-      ← two xs 0 c.from_be_bytes-then-from_be_bytes-2-2.ensures c.bytes_at-then-from_be_bytes-2-2.ensures (search rules),
-      ← two ys 0 c.from_be_bytes-then-from_be_bytes-2-3.ensures c.bytes_at-then-from_be_bytes-2-3.ensures (search rules),
+      ← c.number_at.ensures.0,
+      ← c.number_at-then-from_be_bytes-2.ensures.0,
     )
 
 pub returns-else-from_be_bytes-2 : goal.returns-else-from_be_bytes-2
