@@ -55,9 +55,9 @@ read-in before kept space rest h n more e k m =
     refills before kept (take n kept ++ (space ++ rest)) h (record { at = 0; end = n + more }) n more e k (filled kept space rest n more k m)
 
 -- a read that brings something leaves less room
-pub less-room : (before after : List ℕ) (h g : Held) (more room : ℕ) → Refills before h after g more → length after ≤ room → (more ≡ 0 → ⊥)
+pub less-room : (before after : List ℕ) (h g : Held) (more room : ℕ) → Refills before h after g more → length (unread after g) ≤ room → (more ≡ 0 → ⊥)
     → room - length (unread after g) < room - length (unread before h)
-less-room before after h g more room s fits some = omega (arith, s.grown, unread-within after g, fits, some)
+less-room before after h g more room s fits some = omega (arith, s.grown, fits, some)
 
 -- what is handed out leaves the marks as they are, and one piece fewer
 pub next-piece : (p : Pieces) (f : Feed) (before after : List ℕ) (h : Held) (r : Feed) → Begins (behind before f) (unread after h)
