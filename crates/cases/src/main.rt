@@ -38,7 +38,7 @@ use crate::sizes::SIZES;
 use crate::tallies::TALLIES;
 use crate::worked::WORKED;
 
-// What standard output doesn't take is not said again.
+// What standard output doesn't take is not said again, but the piece behind it is tried, here and in each row.
 fn main(rt: HostRuntime) {
     let to = rt.stdout();
     let _ = println!(to;
@@ -50,5 +50,8 @@ fn main(rt: HostRuntime) {
     ] {
         tally = shown(to, tally, list);
     }
-    let _ = println!(to; "{} of {} did what they should", tally.agree, tally.tried);
+    let _ = print!(to; "{}", tally.agree);
+    let _ = to.write_all(b" of ");
+    let _ = print!(to; "{}", tally.tried);
+    let _ = to.write_all(b" did what they should\n");
 }
